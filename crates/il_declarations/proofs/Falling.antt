@@ -1,7 +1,8 @@
 -- The tokens of a text that was read stand in the order in which it says them: fewer and fewer bytes are left from each on.
 use Rattle.std.proofs.Common.{◌≡◌, ℕ, zero, suc, ◌-◌, ◌<◌, ◌≤◌, Bool, true, false, cond, List, [], ◌∷◌, ◌++◌, length, take, Option, Some, None, refl, sym, ap, subst, ◌∙◌, arith, ◌||◌}
+use Rattle.il_model.specs.declared.dialect.Dialect.{Dialect}
+use Rattle.il_model.specs.Dialects.{operator_in}
 use Rattle.il_model.specs.declared.words.Mnemonic.{Mnemonic}
-use Rattle.il_model.specs.Words.{mnemonic_of}
 use Rattle.il_reader.specs.declared.contents.Operator.{Operator}
 use Rattle.il_reader.specs.declared.lexeme.Class.{Class}
 use Rattle.il_reader.specs.declared.lexeme.Class.TheVariants as classes
@@ -30,13 +31,13 @@ put_falls : (o : Option Class) (text : List ℕ) (left n : ℕ) (ts : List Token
 put_falls None text left n ts here falls = weaken left n ts (omega arith) falls
 put_falls (Some c) text left n ts here falls = (here, after_falls c left ts falls)
 
-tokens_fall : (k : ℕ) (bytes : List ℕ) → Falling (suc (length bytes)) (tokens_behind k bytes)
+tokens_fall : (dialect : Dialect) → (k : ℕ) (bytes : List ℕ) → Falling (suc (length bytes)) (tokens_behind dialect k bytes)
 unfolding tokens_behind
-tokens_fall k [] = (omega arith, tt)
-tokens_fall (suc k) (b ∷ bs) = weaken (suc (length bs)) (suc (suc (length bs))) (tokens_behind k bs) (omega arith) (tokens_fall k bs)
-tokens_fall zero (b ∷ bs) =
-    let p = piece_of (b ∷ bs) in
-    put_falls p.class (take p.len (b ∷ bs)) (length (b ∷ bs)) (suc (suc (length bs))) (tokens_behind (p.len - 1) bs) (omega arith) (tokens_fall (p.len - 1) bs)
+tokens_fall dialect k [] = (omega arith, tt)
+tokens_fall dialect (suc k) (b ∷ bs) = weaken (suc (length bs)) (suc (suc (length bs))) (tokens_behind dialect k bs) (omega arith) (tokens_fall dialect k bs)
+tokens_fall dialect zero (b ∷ bs) =
+    let p = piece_of dialect (b ∷ bs) in
+    put_falls p.class (take p.len (b ∷ bs)) (length (b ∷ bs)) (suc (suc (length bs))) (tokens_behind dialect (p.len - 1) bs) (omega arith) (tokens_fall dialect (p.len - 1) bs)
 
 skip_falls : (n : ℕ) (ts : List Token) → Falling n ts → Falling n (skip_breaks ts)
 unfolding skip_breaks
@@ -78,8 +79,8 @@ parts_fall n (this p x ∷ ps) (t ∷ ts) rest falls h =
     subst P h.0.1 (falls.0, parts_fall t.left ps ts rest falls.1 h.1)
 
 -- the parts of a text that was read
-pub text_falls : (bytes : List ℕ) (ps : List Part) (rest : List Token) → Spell ps (tokens_of bytes) rest → Falls (suc (length bytes)) ps 0
-text_falls bytes ps rest h = parts_fall (suc (length bytes)) ps (tokens_of bytes) rest (tokens_fall 0 bytes) h
+pub text_falls : (dialect : Dialect) → (bytes : List ℕ) (ps : List Part) (rest : List Token) → Spell ps (tokens_of dialect bytes) rest → Falls (suc (length bytes)) ps 0
+text_falls dialect bytes ps rest h = parts_fall (suc (length bytes)) ps (tokens_of dialect bytes) rest (tokens_fall dialect 0 bytes) h
 
 pub at_most : (n : ℕ) (ps : List Part) (m : ℕ) → Falls n ps m → m ≤ n
 at_most n [] m falls = falls
@@ -107,20 +108,20 @@ operator_is : (x y : Operator) → some_operator x ≡ some_operator y → x ≡
 operator_is x y e = cc
 
 -- an operator stands where its token stands
-pub operator_at : (b : BehindText) (t : Token) (x : Operator) → operator_before b t ≡ Some x → x.left ≡ t.left
+pub operator_at : (dialect : Dialect) → (b : BehindText) (t : Token) (x : Operator) → operator_before dialect b t ≡ Some x → x.left ≡ t.left
 unfolding operator_of
-operator_at b t x e = found (operator_of t) by_token e
+operator_at dialect b t x e = found (operator_of dialect t) by_token e
   where
-    by_token : (y : Operator) → operator_of t ≡ Some y → y.left ≡ t.left
+    by_token : (y : Operator) → operator_of dialect t ≡ Some y → y.left ≡ t.left
     by_token y h = chosen (is_sign signs.Name t) (is_sign signs.Ampersand t) (is_sign signs.Close t) h
       where
         worded : (o : Option Mnemonic) → operator_from t.left o ≡ Some y → y.left ≡ t.left
         worded None h = absurd cc
         worded (Some m) h = sym (ap (λ (z : Operator). z.left) (operator_is (record { mnemonic = m; left = t.left }) y h))
 
-        chosen : (a c d : Bool) → cond (a || c) (operator_from t.left (mnemonic_of t.text)) (cond d (Some (record { mnemonic = closing; left = t.left })) None) ≡ Some y → y.left ≡ t.left
-        chosen true c d h = worded (mnemonic_of t.text) h
-        chosen false true d h = worded (mnemonic_of t.text) h
+        chosen : (a c d : Bool) → cond (a || c) (operator_from t.left (operator_in dialect t.text)) (cond d (Some (record { mnemonic = closing; left = t.left })) None) ≡ Some y → y.left ≡ t.left
+        chosen true c d h = worded (operator_in dialect t.text) h
+        chosen false true d h = worded (operator_in dialect t.text) h
         chosen false false true h = sym (ap (λ (z : Operator). z.left) (operator_is (record { mnemonic = closing; left = t.left }) y h))
         chosen false false false h = absurd cc
 

@@ -1,6 +1,8 @@
 -- What the walk answers is the program that a text declares, where it has no fault, and else the first of its faults.
 use Rattle.std.proofs.Common.{◌≡◌, inl, inr, ℕ, zero, suc, arith, List, [], ◌∷◌, Option, Some, None, Result, Ok, Err, refl, sym, ap, subst, ◌∙◌}
 use Rattle.std.specs.List.{AllZip}
+use Rattle.il_model.specs.declared.dialect.Dialect.{Dialect}
+use Rattle.il_reader.specs.Grammar.{dialect_of}
 use Rattle.il_model.specs.declared.op.Op.{Op}
 use Rattle.il_model.specs.declared.op.Modifier.{Modifier}
 use Rattle.il_model.specs.declared.program.Side.{Side}
@@ -43,8 +45,8 @@ operand_is x y e = cc
 abbrev argument : List ℕ → Side → Operand → Argument
 argument field side operand = record { field = field; side = side; operand = operand }
 
-one_argument : (a : ArgumentText) (x y : Argument) → IsArgumentOf a x → IsArgumentOf a y → x ≡ y
-one_argument a x y h k =
+one_argument : (dialect : Dialect) → (a : ArgumentText) (x y : Argument) → IsArgumentOf dialect a x → IsArgumentOf dialect a y → x ≡ y
+one_argument dialect a x y h k =
     ap (λ (f : List ℕ). argument f x.side x.operand) (h.field ∙ sym k.field)
     ∙ ap (λ (s : Side). argument y.field s x.operand) (h.side ∙ sym k.side)
     ∙ ap (λ (o : Operand). argument y.field y.side o) (operand_is x.operand y.operand (sym h.operand ∙ k.operand))
@@ -69,46 +71,46 @@ same_instr x y l o m p a =
     ∙ ap (λ (w : Operand). instr y.label y.op y.modifier w x.arguments) p
     ∙ ap (λ (w : List Argument). instr y.label y.op y.modifier y.operand w) a
 
-one_operation : (o : OperationText) (x y : Instr) → x.label ≡ y.label → IsOperationOf o x → IsOperationOf o y → x ≡ y
-one_operation o x y l h k =
-    same_instr x y l (h.op ∙ sym k.op) (h.modifier ∙ sym k.modifier) (operand_is x.operand y.operand (sym h.operand ∙ k.operand)) (one_list IsArgumentOf one_argument (arguments_behind o.behind) x.arguments y.arguments h.arguments k.arguments)
+one_operation : (dialect : Dialect) → (o : OperationText) (x y : Instr) → x.label ≡ y.label → IsOperationOf dialect o x → IsOperationOf dialect o y → x ≡ y
+one_operation dialect o x y l h k =
+    same_instr x y l (h.op ∙ sym k.op) (h.modifier ∙ sym k.modifier) (operand_is x.operand y.operand (sym h.operand ∙ k.operand)) (one_list (IsArgumentOf dialect) (one_argument dialect) (arguments_behind o.behind) x.arguments y.arguments h.arguments k.arguments)
 
-one_behind : (o : Option OperationText) (x y : Instr) → x.label ≡ y.label → IsBehindLabel o x → IsBehindLabel o y → x ≡ y
-one_behind None x y l h k = same_instr x y l (h.op ∙ sym k.op) (h.modifier ∙ sym k.modifier) (h.operand ∙ sym k.operand) (h.arguments ∙ sym k.arguments)
-one_behind (Some o) x y l h k = one_operation o x y l h k
+one_behind : (dialect : Dialect) → (o : Option OperationText) (x y : Instr) → x.label ≡ y.label → IsBehindLabel dialect o x → IsBehindLabel dialect o y → x ≡ y
+one_behind dialect None x y l h k = same_instr x y l (h.op ∙ sym k.op) (h.modifier ∙ sym k.modifier) (h.operand ∙ sym k.operand) (h.arguments ∙ sym k.arguments)
+one_behind dialect (Some o) x y l h k = one_operation dialect o x y l h k
 
-one_instruction : (l : LineText) (x y : Instr) → IsInstructionOf l x → IsInstructionOf l y → x ≡ y
-one_instruction (Labelled t o) x y h k = one_behind o x y (h.0 ∙ sym k.0) h.1 k.1
-one_instruction (Plain o) x y h k = one_operation o x y (h.0 ∙ sym k.0) h.1 k.1
+one_instruction : (dialect : Dialect) → (l : LineText) (x y : Instr) → IsInstructionOf dialect l x → IsInstructionOf dialect l y → x ≡ y
+one_instruction dialect (Labelled t o) x y h k = one_behind dialect o x y (h.0 ∙ sym k.0) h.1 k.1
+one_instruction dialect (Plain o) x y h k = one_operation dialect o x y (h.0 ∙ sym k.0) h.1 k.1
 
 abbrev text : List Variable → List Instance → List Instr → Program
 text vs xs code = record { variables = vs; instances = xs; code = code }
 
-pub one_program : (p : ProgramText) (P Q : Program) → IsProgramOf p P → IsProgramOf p Q → P ≡ Q
-one_program p P Q h k =
+pub one_program : (dialect : Dialect) → (p : ProgramText) (P Q : Program) → IsProgramOf dialect p P → IsProgramOf dialect p Q → P ≡ Q
+one_program dialect p P Q h k =
     ap (λ (vs : List Variable). text vs P.instances P.code) (h.variables ∙ sym k.variables)
     ∙ ap (λ (xs : List Instance). text Q.variables xs P.code) (h.instances ∙ sym k.instances)
-    ∙ ap (λ (code : List Instr). text Q.variables Q.instances code) (one_list IsInstructionOf one_instruction p.lines P.code Q.code h.code k.code)
+    ∙ ap (λ (code : List Instr). text Q.variables Q.instances code) (one_list (IsInstructionOf dialect) (one_instruction dialect) p.lines P.code Q.code h.code k.code)
 
 -- ---- faults
 
-no_fault : (p : ProgramText) → faults_of p ≡ [] → HasNoFault p
-no_fault p none f has = subst (λ (fs : List FaultAt). Among f fs) none (listed p f has)
+no_fault : (dialect : Dialect) → (p : ProgramText) → faults_of dialect p ≡ [] → HasNoFault dialect p
+no_fault dialect p none f has = subst (λ (fs : List FaultAt). Among f fs) none (listed dialect p f has)
 
-leads : (p : ProgramText) (f : FaultAt) (rest : List FaultAt) → faults_of p ≡ f ∷ rest → HasFault p f
-leads p f rest e = had p f (subst (λ (fs : List FaultAt). Among f fs) (sym e) (inl refl))
+leads : (dialect : Dialect) → (p : ProgramText) (f : FaultAt) (rest : List FaultAt) → faults_of dialect p ≡ f ∷ rest → HasFault dialect p f
+leads dialect p f rest e = had dialect p f (subst (λ (fs : List FaultAt). Among f fs) (sym e) (inl refl))
 
-first_fault : (p : ProgramText) (f : FaultAt) (rest : List FaultAt) → InOrder (faults_of p) → faults_of p ≡ f ∷ rest → IsFirstFault p f
-first_fault p f rest order e = record {
-  has = leads p f rest e;
-  first = λ g has. first_told f rest (subst InOrder e order) g (subst (λ (fs : List FaultAt). Among g fs) e (listed p g has));
+first_fault : (dialect : Dialect) → (p : ProgramText) (f : FaultAt) (rest : List FaultAt) → InOrder (faults_of dialect p) → faults_of dialect p ≡ f ∷ rest → IsFirstFault dialect p f
+first_fault dialect p f rest order e = record {
+  has = leads dialect p f rest e;
+  first = λ g has. first_told f rest (subst InOrder e order) g (subst (λ (fs : List FaultAt). Among g fs) e (listed dialect p g has));
 }
 
-ok_agrees : (p : ProgramText) (P : Program) → program_at p ≡ Ok P → faults_of p ≡ []
-ok_agrees p P e = subst (λ (r : Result Program FaultAt). Agrees r (faults_of p)) e (program_agrees p)
+ok_agrees : (dialect : Dialect) → (p : ProgramText) (P : Program) → program_at dialect p ≡ Ok P → faults_of dialect p ≡ []
+ok_agrees dialect p P e = subst (λ (r : Result Program FaultAt). Agrees r (faults_of dialect p)) e (program_agrees dialect p)
 
-err_agrees : (p : ProgramText) (f : FaultAt) → program_at p ≡ Err f → (rest : List FaultAt) × (faults_of p ≡ f ∷ rest)
-err_agrees p f e = subst (λ (r : Result Program FaultAt). Agrees r (faults_of p)) e (program_agrees p)
+err_agrees : (dialect : Dialect) → (p : ProgramText) (f : FaultAt) → program_at dialect p ≡ Err f → (rest : List FaultAt) × (faults_of dialect p ≡ f ∷ rest)
+err_agrees dialect p f e = subst (λ (r : Result Program FaultAt). Agrees r (faults_of dialect p)) e (program_agrees dialect p)
 
 -- ---- the walk
 
@@ -128,27 +130,27 @@ was_ok : (bytes : List ℕ) (r : Result Program FaultAt) (P : Program) → told 
 was_ok bytes (Ok Q) P e = ap (λ (x : Program). Ok x) (good_is Q P e)
 was_ok bytes (Err f) P e = absurd cc
 
-pub found : (s : SourceText) (P : Program) → resolution_of s ≡ Ok P → IsProgramOf s.says P × HasNoFault s.says
+pub found : (s : SourceText) (P : Program) → resolution_of s ≡ Ok P → IsProgramOf (dialect_of s.text) s.says P × HasNoFault (dialect_of s.text) s.says
 found s P e =
-    let was = was_ok s.text (program_at s.says) P e in
-    (program_kept s.says P was, no_fault s.says (ok_agrees s.says P was))
+    let was = was_ok s.text (program_at (dialect_of s.text) s.says) P e in
+    (program_kept (dialect_of s.text) s.says P was, no_fault (dialect_of s.text) s.says (ok_agrees (dialect_of s.text) s.says P was))
 
 pub refused : (s : SourceText) (F : Fault) → IsSource s → resolution_of s ≡ Err F → IsRefused s F
-refused s F is e = by_walk (program_at s.says) refl e
+refused s F is e = by_walk (program_at (dialect_of s.text) s.says) refl e
   where
-    by_walk : (r : Result Program FaultAt) → program_at s.says ≡ r → told s.text r ≡ Err F → IsRefused s F
+    by_walk : (r : Result Program FaultAt) → program_at (dialect_of s.text) s.says ≡ r → told s.text r ≡ Err F → IsRefused s F
     by_walk (Ok Q) w h = absurd cc
     by_walk (Err f) w h =
-        let rest = err_agrees s.says f w in
+        let rest = err_agrees (dialect_of s.text) s.says f w in
         let told-is = bad_is (record { kind = f.kind; place = place_at s.text f.left }) F h in
-        subst (IsRefused s) told-is (record { fault = f; first = first_fault s.says f rest.0 (text_ordered s.text s.says is.said) rest.1; kind = refl; place = refl })
+        subst (IsRefused s) told-is (record { fault = f; first = first_fault (dialect_of s.text) s.says f rest.0 (text_ordered (dialect_of s.text) s.text s.says is.said) rest.1; kind = refl; place = refl })
 
-pub only : (s : SourceText) (P : Program) → IsProgramOf s.says P → HasNoFault s.says → resolution_of s ≡ Ok P
-only s P is none = by_walk (program_at s.says) refl
+pub only : (s : SourceText) (P : Program) → IsProgramOf (dialect_of s.text) s.says P → HasNoFault (dialect_of s.text) s.says → resolution_of s ≡ Ok P
+only s P is none = by_walk (program_at (dialect_of s.text) s.says) refl
   where
-    by_walk : (r : Result Program FaultAt) → program_at s.says ≡ r → told s.text r ≡ Ok P
-    by_walk (Ok Q) w = ap good (one_program s.says Q P (program_kept s.says Q w) is)
-    by_walk (Err f) w = let rest = err_agrees s.says f w in absurd (none f (leads s.says f rest.0 rest.1))
+    by_walk : (r : Result Program FaultAt) → program_at (dialect_of s.text) s.says ≡ r → told s.text r ≡ Ok P
+    by_walk (Ok Q) w = ap good (one_program (dialect_of s.text) s.says Q P (program_kept (dialect_of s.text) s.says Q w) is)
+    by_walk (Err f) w = let rest = err_agrees (dialect_of s.text) s.says f w in absurd (none f (leads (dialect_of s.text) s.says f rest.0 rest.1))
 
 -- ---- one first fault
 
@@ -194,15 +196,15 @@ one_refused s F G a b =
     ap (λ (k : DeclKind). fault k F.place) (a.kind ∙ same.kind ∙ sym b.kind) ∙ ap (λ (l : Place). fault G.kind l) (a.place ∙ ap (place_at s.text) same.left ∙ sym b.place)
 
 pub told_only : (s : SourceText) (F : Fault) → IsSource s → IsRefused s F → resolution_of s ≡ Err F
-told_only s F is first = by_walk (program_at s.says) refl
+told_only s F is first = by_walk (program_at (dialect_of s.text) s.says) refl
   where
-    by_walk : (r : Result Program FaultAt) → program_at s.says ≡ r → told s.text r ≡ Err F
-    by_walk (Ok Q) w = absurd (no_fault s.says (ok_agrees s.says Q w) first.fault first.first.has)
+    by_walk : (r : Result Program FaultAt) → program_at (dialect_of s.text) s.says ≡ r → told s.text r ≡ Err F
+    by_walk (Ok Q) w = absurd (no_fault (dialect_of s.text) s.says (ok_agrees (dialect_of s.text) s.says Q w) first.fault first.first.has)
     by_walk (Err f) w = ap bad (one_refused s (placed s.text f.kind f.left) F (refused s (placed s.text f.kind f.left) is (ap (told s.text) w)) first)
 
 -- ---- the call
 
-pub ok_clause : (s : SourceText) (r : Result Program DeclError) → Answers (λ p. p) r (resolution_of s) → IfOk r (λ P. IsProgramOf s.says P × HasNoFault s.says)
+pub ok_clause : (s : SourceText) (r : Result Program DeclError) → Answers (λ p. p) r (resolution_of s) → IfOk r (λ P. IsProgramOf (dialect_of s.text) s.says P × HasNoFault (dialect_of s.text) s.says)
 ok_clause s (Ok P) h = found s P h
 ok_clause s (Err e) h = tt
 

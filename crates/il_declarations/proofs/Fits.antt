@@ -6,6 +6,11 @@ use Rattle.std.specs.Option.{option_map}
 use Rattle.std.specs.Cmp.Lexicographic.{nat_list_eq_equiv}
 use Rattle.std.proofs.lemmas.List.{length-append, append-nil}
 use Rattle.std.proofs.lemmas.Bool.{lt-ltb, le-ltb, leb-false}
+use Rattle.il_model.specs.declared.dialect.Dialect.{Dialect}
+use Rattle.il_model.specs.declared.dialect.Dialect.TheVariants as dialects
+use Rattle.il_model.specs.declared.function.Function.{Function}
+use Rattle.il_model.specs.Functions.{function_named}
+use Rattle.il_model.specs.Dialects.{applied, or_function, or_extended, operator_in, literal_in}
 use Rattle.il_model.specs.Program.{program_of, Program, Declarations}
 use Rattle.il_model.specs.declared.value.Ty.{Ty}
 use Rattle.il_model.specs.declared.value.Ty.TheVariants as types
@@ -29,8 +34,7 @@ use Rattle.il_model.specs.declared.codes.Usage.{Usage}
 use Rattle.il_model.specs.declared.codes.OperandForm as usage
 use Rattle.il_model.specs.declared.codes.OperandForm.TheVariants as usages
 use Rattle.il_model.specs.Values.{ty_of, number_of, typed_value, zero_of}
-use Rattle.il_model.specs.Literals.{literal_of}
-use Rattle.il_model.specs.Words.{same_name, is_reserved, is_lawful_name, spells, look, mnemonic_of, mnemonic_table}
+use Rattle.il_model.specs.Words.{same_name, is_reserved, is_lawful_name, spells, look, mnemonic_of, mnemonic_table, extended_mnemonic_of, extended_mnemonic_table}
 use Rattle.il_model.specs.Resolved.{instance_in}
 use Rattle.il_model.specs.CodedOperands.{loc_code, IsCell}
 use Rattle.il_model.specs.Image.{type_code}
@@ -41,7 +45,8 @@ use Rattle.il_model.specs.Codes.{is_new_name, is_taken, length_of, may_start_wit
 use Rattle.il_model.specs.Fits.{IsVariable, IsInstance, AreItems}
 use Rattle.il_model.specs.Lawful.{IsLabel}
 use Rattle.il_model.specs.Declarable.{IsOperand, as_value, IsArgument, IsInstruction, IsDeclared}
-use Rattle.il_model.proofs.LiteralLaws.{IsInRange, literal_good, start_again}
+use Rattle.il_model.proofs.LiteralLaws.{IsInRange, literal_in_good, start_again}
+use Rattle.il_model.proofs.RealValues.{bare_made, real_again}
 use Rattle.il_model.proofs.Positions.{position_first, position_later, position_past}
 use Rattle.il_reader.specs.declared.contents.Operator.{Operator}
 use Rattle.il_reader.specs.declared.operations.Form.{Form}
@@ -130,6 +135,7 @@ type_again types.Int = refl
 type_again types.Dint = refl
 type_again types.Time = refl
 type_again types.Lint = refl
+type_again types.Real = refl
 
 -- a value that is made again of its own number at that place
 abbrev IsStart : Ty → Option Loc → Value → Type 0
@@ -216,12 +222,17 @@ not_false : (b : Bool) → not b ≡ false → b ≡ true
 not_false true e = refl
 not_false false e = absurd cc
 
+real_zero : (v : Value) → ty_of v ≡ types.Real → typed_value types.Real (number_of v) ≡ Some v
+real_zero (values.Real r) e = real_again r
+real_zero v e = absurd cc
+
 zero_made : (type : Ty) → typed_value type (pos 0) ≡ Some (zero_of type)
 zero_made types.Bool = refl
 zero_made types.Int = refl
 zero_made types.Dint = refl
 zero_made types.Time = refl
 zero_made types.Lint = refl
+zero_made types.Real = real_zero (zero_of types.Real) refl
 
 zero_may : (type : Ty) (loc : Option Loc) → may_start_with loc (zero_of type) ≡ true
 zero_may type None = refl
@@ -230,6 +241,7 @@ zero_may types.Int (Some loc) = or_true (is_writable_area (area_of loc))
 zero_may types.Dint (Some loc) = or_true (is_writable_area (area_of loc))
 zero_may types.Time (Some loc) = or_true (is_writable_area (area_of loc))
 zero_may types.Lint (Some loc) = or_true (is_writable_area (area_of loc))
+zero_may types.Real (Some loc) = or_true (is_writable_area (area_of loc))
 
 abbrev one_value : Value → Option Value
 one_value v = Some v
@@ -239,7 +251,7 @@ value_is x y e = cc
 
 fitting_made : (type : Ty) (o : Option Literal) (v : Value) → fitting type o ≡ Some v → (z : ℤ) × (typed_value type z ≡ Some v)
 fitting_made type None v e = absurd cc
-fitting_made type (Some (Bare z)) v e = (z, e)
+fitting_made type (Some (Bare z)) v e = (z, bare_made type z v e)
 fitting_made type (Some (Typed w)) v e = chosen (same_type (ty_of w) type) e
   where
     chosen : (b : Bool) → cond b (typed_value type (number_of w)) None ≡ Some v → (z : ℤ) × (typed_value type z ≡ Some v)
@@ -250,38 +262,38 @@ may_written : (loc : Option Loc) (v : Value) → is_input loc ≡ false → may_
 may_written None v e = refl
 may_written (Some loc) v e = rw (not_false (is_writable_area (area_of loc)) e) refl
 
-written_start : (type : Ty) (loc : Option Loc) (t : Token) (v : Value) → written_value type loc t ≡ Some v → IsStart type loc v
-written_start type loc t v e = chosen (is_input loc) refl e
+written_start : (dialect : Dialect) → (type : Ty) (loc : Option Loc) (t : Token) (v : Value) → written_value dialect type loc t ≡ Some v → IsStart type loc v
+written_start dialect type loc t v e = chosen (is_input loc) refl e
   where
-    chosen : (b : Bool) → is_input loc ≡ b → cond b None (fitting type (literal_of t.text)) ≡ Some v → IsStart type loc v
+    chosen : (b : Bool) → is_input loc ≡ b → cond b None (fitting type (literal_in dialect t.text)) ≡ Some v → IsStart type loc v
     chosen true f h = absurd cc
-    chosen false f h = let m = fitting_made type (literal_of t.text) v h in start_again type loc m.0 v m.1 (may_written loc v f)
+    chosen false f h = let m = fitting_made type (literal_in dialect t.text) v h in start_again type loc m.0 v m.1 (may_written loc v f)
 
 fitted_is : (t : Token) (o : Option Value) (v : Value) → fitted t o ≡ Ok v → o ≡ Some v
 fitted_is t None v e = absurd cc
 fitted_is t (Some x) v e = ap one_value (ok_is x v e)
 
-elementary_start : (type : Ty) (loc : Option Loc) (o : Option Token) (v : Value) → elementary_value type loc o ≡ Ok v → IsStart type loc v
-elementary_start type loc None v e = subst (IsStart type loc) (ok_is (zero_of type) v e) (start_again type loc (pos 0) (zero_of type) (zero_made type) (zero_may type loc))
-elementary_start type loc (Some t) v e = written_start type loc t v (fitted_is t (written_value type loc t) v e)
+elementary_start : (dialect : Dialect) → (type : Ty) (loc : Option Loc) (o : Option Token) (v : Value) → elementary_value dialect type loc o ≡ Ok v → IsStart type loc v
+elementary_start dialect type loc None v e = subst (IsStart type loc) (ok_is (zero_of type) v e) (start_again type loc (pos 0) (zero_of type) (zero_made type) (zero_may type loc))
+elementary_start dialect type loc (Some t) v e = written_start dialect type loc t v (fitted_is t (written_value dialect type loc t) v e)
 
 -- what a variable may start with; an instance starts with nothing
 abbrev Starts : DeclaredType → Option Loc → Value → Type 0
 Starts (Elementary type) loc v = IsStart type loc v
 Starts (Block kind) loc v = Unit {0}
 
-first_start : (type : DeclaredType) (loc : Option Loc) (o : Option Token) (v : Value) → first_value type loc o ≡ Ok v → Starts type loc v
-first_start (Elementary type) loc o v e = elementary_start type loc o v e
-first_start (Block kind) loc o v e = tt
+first_start : (dialect : Dialect) → (type : DeclaredType) (loc : Option Loc) (o : Option Token) (v : Value) → first_value dialect type loc o ≡ Ok v → Starts type loc v
+first_start dialect (Elementary type) loc o v e = elementary_start dialect type loc o v e
+first_start dialect (Block kind) loc o v e = tt
 
 -- the value that was planned is the first value
-planned_is : (type : Ty) (o : Option Token) (v : Value) → elementary_value type None o ≡ Ok v → planned_value (Some (Elementary type)) o ≡ v
-planned_is type None v e = ok_is (zero_of type) v e
-planned_is type (Some t) v e = rw (fitted_is t (written_value type None t) v e) refl
+planned_is : (dialect : Dialect) → (type : Ty) (o : Option Token) (v : Value) → elementary_value dialect type None o ≡ Ok v → planned_value dialect (Some (Elementary type)) o ≡ v
+planned_is dialect type None v e = ok_is (zero_of type) v e
+planned_is dialect type (Some t) v e = rw (fitted_is t (written_value dialect type None t) v e) refl
 
-planned_start : (type : DeclaredType) (o : Option Token) (v : Value) → first_value type None o ≡ Ok v → Starts type None (planned_value (Some type) o)
-planned_start (Elementary type) o v e = subst (IsStart type None) (sym (planned_is type o v e)) (elementary_start type None o v e)
-planned_start (Block kind) o v e = tt
+planned_start : (dialect : Dialect) → (type : DeclaredType) (o : Option Token) (v : Value) → first_value dialect type None o ≡ Ok v → Starts type None (planned_value dialect (Some type) o)
+planned_start dialect (Elementary type) o v e = subst (IsStart type None) (sym (planned_is dialect type o v e)) (elementary_start dialect type None o v e)
+planned_start dialect (Block kind) o v e = tt
 
 -- ---- declarations
 
@@ -315,8 +327,8 @@ name_keeps type v known t z start fine word e =
     subst Fine (ok_is (with_declared (plan (Some type) v) known m.0 None (Some type)) z m.2)
     (declared_fine type v known t m.0 None fine word (new_is (Some type) known t m.0 m.1) (λ loc none. absurd (no_place loc none)) start)
 
-type_is : (t : Token) (type : DeclaredType) → known_type t ≡ Ok type → declared_type t.text ≡ Some type
-type_is t type e = found (declared_type t.text) e
+type_is : (dialect : Dialect) → (t : Token) (type : DeclaredType) → known_type dialect t ≡ Ok type → declared_type dialect t.text ≡ Some type
+type_is dialect t type e = found (declared_type dialect t.text) e
   where
     found : (o : Option DeclaredType) → found_type t o ≡ Ok type → o ≡ Some type
     found None h = absurd cc
@@ -340,50 +352,50 @@ becomes z known e fine = subst Fine (ok_is known z e) fine
 abbrev located : Declarations → List ℕ → Loc → DeclaredType → Value → Declarations
 located known name loc type v = with_declared (plan (Some type) v) known name (Some loc) (Some type)
 
-located_fine : (known : Declarations) (d : DeclarationText) (at : Token) (name : List ℕ) (loc : Loc) (type : DeclaredType) (v : Value) → Fine known → IsWordText d.name.text → new_name (declared_type d.ty.text) known d.name ≡ Ok name
-    → free_location (declared_type d.ty.text) known at ≡ Ok loc → known_type d.ty ≡ Ok type → first_value type (Some loc) d.initial ≡ Ok v → Fine (located known name loc type v)
-located_fine known d at name loc type v fine word named free typed first =
-    let known-type = type_is d.ty type typed in
+located_fine : (dialect : Dialect) → (known : Declarations) (d : DeclarationText) (at : Token) (name : List ℕ) (loc : Loc) (type : DeclaredType) (v : Value) → Fine known → IsWordText d.name.text → new_name (declared_type dialect d.ty.text) known d.name ≡ Ok name
+    → free_location (declared_type dialect d.ty.text) known at ≡ Ok loc → known_type dialect d.ty ≡ Ok type → first_value dialect type (Some loc) d.initial ≡ Ok v → Fine (located known name loc type v)
+located_fine dialect known d at name loc type v fine word named free typed first =
+    let known-type = type_is dialect d.ty type typed in
     let new = new_is (Some type) known d.name name (subst (λ (o : Option DeclaredType). new_name o known d.name ≡ Ok name) known-type named) in
     let place = place_is type known at loc (subst (λ (o : Option DeclaredType). free_location o known at ≡ Ok loc) known-type free) in
-    declared_fine type v known d.name name (Some loc) fine word new (λ l is. subst (IsFreePlace type known) (same_loc loc l is) place) (first_start type (Some loc) d.initial v first)
+    declared_fine type v known d.name name (Some loc) fine word new (λ l is. subst (IsFreePlace type known) (same_loc loc l is) place) (first_start dialect type (Some loc) d.initial v first)
 
-located_keeps : (known : Declarations) (d : DeclarationText) (at : Token) (z : Declarations) → Fine known → IsWordText d.name.text → declare_located known d at ≡ Ok z → Fine z
+located_keeps : (dialect : Dialect) → (known : Declarations) (d : DeclarationText) (at : Token) (z : Declarations) → Fine known → IsWordText d.name.text → declare_located dialect known d at ≡ Ok z → Fine z
 unfolding declare_located
-located_keeps known d at z fine word e =
-    let a = bind_ok (new_name (declared_type d.ty.text) known d.name) (λ name. free_location (declared_type d.ty.text) known at >>= λ loc. known_type d.ty >>= λ type. first_value type (Some loc) d.initial >>= λ v. Ok (located known name loc type v)) z e in
-    let b = bind_ok (free_location (declared_type d.ty.text) known at) (λ loc. known_type d.ty >>= λ type. first_value type (Some loc) d.initial >>= λ v. Ok (located known a.0 loc type v)) z a.2 in
-    let c = bind_ok (known_type d.ty) (λ type. first_value type (Some b.0) d.initial >>= λ v. Ok (located known a.0 b.0 type v)) z b.2 in
-    let f = bind_ok (first_value c.0 (Some b.0) d.initial) (λ v. Ok (located known a.0 b.0 c.0 v)) z c.2 in
-    becomes z (located known a.0 b.0 c.0 f.0) f.2 (located_fine known d at a.0 b.0 c.0 f.0 fine word a.1 b.1 c.1 f.1)
+located_keeps dialect known d at z fine word e =
+    let a = bind_ok (new_name (declared_type dialect d.ty.text) known d.name) (λ name. free_location (declared_type dialect d.ty.text) known at >>= λ loc. known_type dialect d.ty >>= λ type. first_value dialect type (Some loc) d.initial >>= λ v. Ok (located known name loc type v)) z e in
+    let b = bind_ok (free_location (declared_type dialect d.ty.text) known at) (λ loc. known_type dialect d.ty >>= λ type. first_value dialect type (Some loc) d.initial >>= λ v. Ok (located known a.0 loc type v)) z a.2 in
+    let c = bind_ok (known_type dialect d.ty) (λ type. first_value dialect type (Some b.0) d.initial >>= λ v. Ok (located known a.0 b.0 type v)) z b.2 in
+    let f = bind_ok (first_value dialect c.0 (Some b.0) d.initial) (λ v. Ok (located known a.0 b.0 c.0 v)) z c.2 in
+    becomes z (located known a.0 b.0 c.0 f.0) f.2 (located_fine dialect known d at a.0 b.0 c.0 f.0 fine word a.1 b.1 c.1 f.1)
 
-listed_keeps : (known : Declarations) (d : DeclarationText) (more : List Token) (z : Declarations) → Fine known → IsWordText d.name.text → AllByRecursion IsWordName more → declare_listed known d more ≡ Ok z → Fine z
+listed_keeps : (dialect : Dialect) → (known : Declarations) (d : DeclarationText) (more : List Token) (z : Declarations) → Fine known → IsWordText d.name.text → AllByRecursion IsWordName more → declare_listed dialect known d more ≡ Ok z → Fine z
 unfolding declare_listed
-listed_keeps known d more z fine word words e =
-    let typed_value : Option DeclaredType → Plan = λ o. plan o (planned_value o d.initial) in
-    let a = bind_ok (declare_name (typed_value (declared_type d.ty.text)) known d.name) (λ first. each (declare_name (typed_value (declared_type d.ty.text))) first more >>= λ named. known_type d.ty >>= λ type. first_value type None d.initial >>= λ v. Ok named) z e in
-    let b = bind_ok (each (declare_name (typed_value (declared_type d.ty.text))) a.0 more) (λ named. known_type d.ty >>= λ type. first_value type None d.initial >>= λ v. Ok named) z a.2 in
-    let c = bind_ok (known_type d.ty) (λ type. first_value type None d.initial >>= λ v. Ok b.0) z b.2 in
-    let f = bind_ok (first_value c.0 None d.initial) (λ v. Ok b.0) z c.2 in
-    let type = type_is d.ty c.0 c.1 in
-    let v = planned_value (Some c.0) d.initial in
-    let start : Starts c.0 None v = planned_start c.0 d.initial f.0 f.1 in
+listed_keeps dialect known d more z fine word words e =
+    let typed_value : Option DeclaredType → Plan = λ o. plan o (planned_value dialect o d.initial) in
+    let a = bind_ok (declare_name (typed_value (declared_type dialect d.ty.text)) known d.name) (λ first. each (declare_name (typed_value (declared_type dialect d.ty.text))) first more >>= λ named. known_type dialect d.ty >>= λ type. first_value dialect type None d.initial >>= λ v. Ok named) z e in
+    let b = bind_ok (each (declare_name (typed_value (declared_type dialect d.ty.text))) a.0 more) (λ named. known_type dialect d.ty >>= λ type. first_value dialect type None d.initial >>= λ v. Ok named) z a.2 in
+    let c = bind_ok (known_type dialect d.ty) (λ type. first_value dialect type None d.initial >>= λ v. Ok b.0) z b.2 in
+    let f = bind_ok (first_value dialect c.0 None d.initial) (λ v. Ok b.0) z c.2 in
+    let type = type_is dialect d.ty c.0 c.1 in
+    let v = planned_value dialect (Some c.0) d.initial in
+    let start : Starts c.0 None v = planned_start dialect c.0 d.initial f.0 f.1 in
     let first : Fine a.0 = name_keeps c.0 v known d.name a.0 start fine word (subst (λ (o : Option DeclaredType). declare_name (typed_value o) known d.name ≡ Ok a.0) type a.1) in
     let rest : Fine b.0 = each_keeps Fine IsWordName (declare_name (typed_value (Some c.0))) (λ y t w p q h. name_keeps c.0 v y t w start p q h) a.0 more b.0 first words (subst (λ (o : Option DeclaredType). each (declare_name (typed_value o)) a.0 more ≡ Ok b.0) type b.1) in
     subst Fine (ok_is b.0 z f.2) rest
 
-by_names : (known : Declarations) (d : DeclarationText) (x : NamesText) (z : Declarations) → Fine known → IsWordText d.name.text → AreWordNames x → declare_by known d x ≡ Ok z → Fine z
-by_names known d (Located at) z fine word words e = located_keeps known d at z fine word e
-by_names known d (More more) z fine word words e = listed_keeps known d more z fine word words e
+by_names : (dialect : Dialect) → (known : Declarations) (d : DeclarationText) (x : NamesText) (z : Declarations) → Fine known → IsWordText d.name.text → AreWordNames x → declare_by dialect known d x ≡ Ok z → Fine z
+by_names dialect known d (Located at) z fine word words e = located_keeps dialect known d at z fine word e
+by_names dialect known d (More more) z fine word words e = listed_keeps dialect known d more z fine word words e
 
-declare_keeps : (known : Declarations) (d : DeclarationText) (z : Declarations) → Fine known → IsWordDeclaration d → declare known d ≡ Ok z → Fine z
-declare_keeps known d z fine words e = by_names known d d.names z fine words.name words.names e
+declare_keeps : (dialect : Dialect) → (known : Declarations) (d : DeclarationText) (z : Declarations) → Fine known → IsWordDeclaration d → declare dialect known d ≡ Ok z → Fine z
+declare_keeps dialect known d z fine words e = by_names dialect known d d.names z fine words.name words.names e
 
-block_keeps : (known : Declarations) (ds : List DeclarationText) (z : Declarations) → Fine known → AllByRecursion IsWordDeclaration ds → declare_block known ds ≡ Ok z → Fine z
-block_keeps known ds z fine words e = each_keeps Fine IsWordDeclaration declare declare_keeps known ds z fine words e
+block_keeps : (dialect : Dialect) → (known : Declarations) (ds : List DeclarationText) (z : Declarations) → Fine known → AllByRecursion IsWordDeclaration ds → declare_block dialect known ds ≡ Ok z → Fine z
+block_keeps dialect known ds z fine words e = each_keeps Fine IsWordDeclaration (declare dialect) (declare_keeps dialect) known ds z fine words e
 
-pub blocks_fine : (bs : List (List DeclarationText)) (z : Declarations) → AllByRecursion (AllByRecursion IsWordDeclaration) bs → each declare_block nothing bs ≡ Ok z → Fine z
-blocks_fine bs z words e = each_keeps Fine (AllByRecursion IsWordDeclaration) declare_block block_keeps nothing bs z (record { variables = tt; variables_few = omega arith; instances = tt; instances_few = omega arith }) words e
+pub blocks_fine : (dialect : Dialect) → (bs : List (List DeclarationText)) (z : Declarations) → AllByRecursion (AllByRecursion IsWordDeclaration) bs → each (declare_block dialect) nothing bs ≡ Ok z → Fine z
+blocks_fine dialect bs z words e = each_keeps Fine (AllByRecursion IsWordDeclaration) (declare_block dialect) (block_keeps dialect) nothing bs z (record { variables = tt; variables_few = omega arith; instances = tt; instances_few = omega arith }) words e
 
 -- ---- operators
 
@@ -427,20 +439,40 @@ look_fits (r ∷ es) w m all e = chosen (spells r.0 w) (row_fits r) refl (look_f
     chosen true true is more h g = subst (λ (x : Mnemonic). fits x.op x.modifier ≡ true) (some_is (record { op = r.1; modifier = r.2 }) m h) is
     chosen false true is more h g = more g h
 
-mnemonic_fits : (w : List ℕ) (m : Mnemonic) → mnemonic_of w ≡ Some m → fits m.op m.modifier ≡ true
+plain_fits : (w : List ℕ) (m : Mnemonic) → mnemonic_of w ≡ Some m → fits m.op m.modifier ≡ true
 unfolding mnemonic_of
-mnemonic_fits w m e = look_fits mnemonic_table w m refl e
+plain_fits w m e = look_fits mnemonic_table w m refl e
 
-operator_fits : (t : Token) (x : Operator) → operator_of t ≡ Some x → fits x.mnemonic.op x.mnemonic.modifier ≡ true
+applied_fits : (o : Option Function) (m : Mnemonic) → applied o ≡ Some m → fits m.op m.modifier ≡ true
+applied_fits None m e = absurd cc
+applied_fits (Some f) m e = subst (λ (x : Mnemonic). fits x.op x.modifier ≡ true) (some_is (record { op = ops.Apply f; modifier = resolution.plain }) m e) refl
+
+function_fits : (w : List ℕ) (o : Option Mnemonic) (m : Mnemonic) → (o ≡ Some m → fits m.op m.modifier ≡ true) → or_function w o ≡ Some m → fits m.op m.modifier ≡ true
+function_fits w None m own e = applied_fits (function_named w) m e
+function_fits w (Some x) m own e = own e
+
+more_fits : (w : List ℕ) (m : Mnemonic) → extended_mnemonic_of w ≡ Some m → fits m.op m.modifier ≡ true
+unfolding extended_mnemonic_of
+more_fits w m e = look_fits extended_mnemonic_table w m refl e
+
+extended_fits : (w : List ℕ) (o : Option Mnemonic) (m : Mnemonic) → (o ≡ Some m → fits m.op m.modifier ≡ true) → or_extended w o ≡ Some m → fits m.op m.modifier ≡ true
+extended_fits w None m own e = function_fits w (extended_mnemonic_of w) m (more_fits w m) e
+extended_fits w (Some x) m own e = own e
+
+mnemonic_fits : (dialect : Dialect) → (w : List ℕ) (m : Mnemonic) → operator_in dialect w ≡ Some m → fits m.op m.modifier ≡ true
+mnemonic_fits dialects.Plain w m e = plain_fits w m e
+mnemonic_fits dialects.Extended w m e = extended_fits w (mnemonic_of w) m (plain_fits w m) e
+
+operator_fits : (dialect : Dialect) → (t : Token) (x : Operator) → operator_of dialect t ≡ Some x → fits x.mnemonic.op x.mnemonic.modifier ≡ true
 unfolding operator_of
-operator_fits t x e = chosen (is_sign signs.Name t || is_sign signs.Ampersand t) (is_sign signs.Close t) e
+operator_fits dialect t x e = chosen (is_sign signs.Name t || is_sign signs.Ampersand t) (is_sign signs.Close t) e
   where
-    by_mnemonic : (o : Option Mnemonic) → mnemonic_of t.text ≡ o → operator_from t.left o ≡ Some x → fits x.mnemonic.op x.mnemonic.modifier ≡ true
+    by_mnemonic : (o : Option Mnemonic) → operator_in dialect t.text ≡ o → operator_from t.left o ≡ Some x → fits x.mnemonic.op x.mnemonic.modifier ≡ true
     by_mnemonic None f h = absurd cc
-    by_mnemonic (Some m) f h = subst (λ (y : Operator). fits y.mnemonic.op y.mnemonic.modifier ≡ true) (operator_is (record { mnemonic = m; left = t.left }) x h) (mnemonic_fits t.text m f)
+    by_mnemonic (Some m) f h = subst (λ (y : Operator). fits y.mnemonic.op y.mnemonic.modifier ≡ true) (operator_is (record { mnemonic = m; left = t.left }) x h) (mnemonic_fits dialect t.text m f)
 
-    chosen : (b c : Bool) → cond b (operator_from t.left (mnemonic_of t.text)) (cond c (Some (record { mnemonic = closing; left = t.left })) None) ≡ Some x → fits x.mnemonic.op x.mnemonic.modifier ≡ true
-    chosen true c h = by_mnemonic (mnemonic_of t.text) refl h
+    chosen : (b c : Bool) → cond b (operator_from t.left (operator_in dialect t.text)) (cond c (Some (record { mnemonic = closing; left = t.left })) None) ≡ Some x → fits x.mnemonic.op x.mnemonic.modifier ≡ true
+    chosen true c h = by_mnemonic (operator_in dialect t.text) refl h
     chosen false true h = subst (λ (y : Operator). fits y.mnemonic.op y.mnemonic.modifier ≡ true) (operator_is (record { mnemonic = closing; left = t.left }) x h) refl
     chosen false false h = absurd cc
 
@@ -449,15 +481,15 @@ record IsTaken (b : BehindText) (x : Operator) : Type 0 where
   takes : accepts (form_of x.mnemonic.op) b ≡ true
   fits : fits x.mnemonic.op x.mnemonic.modifier ≡ true
 
-taken : (b : BehindText) (t : Token) (x : Operator) → operator_before b t ≡ Some x → IsTaken b x
-taken b t x e = found (operator_of t) refl e
+taken : (dialect : Dialect) → (b : BehindText) (t : Token) (x : Operator) → operator_before dialect b t ≡ Some x → IsTaken b x
+taken dialect b t x e = found (operator_of dialect t) refl e
   where
-    found : (o : Option Operator) → operator_of t ≡ o → accepting b o ≡ Some x → IsTaken b x
+    found : (o : Option Operator) → operator_of dialect t ≡ o → accepting b o ≡ Some x → IsTaken b x
     found None f h = absurd cc
     found (Some y) f h = chosen (accepts (form_of y.mnemonic.op) b) refl h
       where
         chosen : (a : Bool) → accepts (form_of y.mnemonic.op) b ≡ a → cond a (Some y) None ≡ Some x → IsTaken b x
-        chosen true g k = subst (IsTaken b) (operator_is y x k) (record { takes = g; fits = operator_fits t y f })
+        chosen true g k = subst (IsTaken b) (operator_is y x k) (record { takes = g; fits = operator_fits dialect t y f })
         chosen false g k = absurd cc
 
 -- ---- operands
@@ -536,26 +568,26 @@ record IsGiven (ds : Declarations) (x : Operand) : Type 0 where
   value : is_value x ≡ true
   lawful : IsOperand ds x
 
-given_is : (ds : Declarations) (y : OperandText) (x : Operand) → walk.operand_of ds y ≡ Ok x → IsGiven ds x
-given_is ds (Constant t) x e = by_literal (literal_of t.text) (literal_good t.text) e
+given_is : (dialect : Dialect) → (ds : Declarations) (y : OperandText) (x : Operand) → walk.operand_of dialect ds y ≡ Ok x → IsGiven ds x
+given_is dialect ds (Constant t) x e = by_literal (literal_in dialect t.text) (literal_in_good dialect t.text) e
   where
     by_literal : (o : Option Literal) → IsInRange o → constant t o ≡ Ok x → IsGiven ds x
     by_literal None r h = absurd cc
     by_literal (Some (Bare z)) r h = subst (IsGiven ds) (ok_is (operands.Bare z) x h) (record { value = refl; lawful = r })
     by_literal (Some (Typed v)) r h = subst (IsGiven ds) (ok_is (operands.Literal v) x h) (record { value = refl; lawful = r })
-given_is ds (Direct t) x e = by_location (written.location_of t.text) refl e
+given_is dialect ds (Direct t) x e = by_location (written.location_of t.text) refl e
   where
     by_location : (o : Option Loc) → written.location_of t.text ≡ o → direct t o ≡ Ok x → IsGiven ds x
     by_location None f h = absurd cc
     by_location (Some loc) f h =
         let p = location_cell t.text loc f in
         subst (IsGiven ds) (ok_is (operands.Direct loc) x h) (record { value = refl; lawful = p })
-given_is ds (Named t) x e = chosen (has_name ds (capitals t.text)) refl e
+given_is dialect ds (Named t) x e = chosen (has_name ds (capitals t.text)) refl e
   where
     chosen : (b : Bool) → has_name ds (capitals t.text) ≡ b → cond b (Ok (operands.Variable (capitals t.text))) (refused kinds.UnknownName t) ≡ Ok x → IsGiven ds x
     chosen true f h = subst (IsGiven ds) (ok_is (operands.Variable (capitals t.text)) x h) (record { value = refl; lawful = f })
     chosen false f h = absurd cc
-given_is ds (Field t f) x e = chosen (has_instance ds (capitals t.text)) refl e
+given_is dialect ds (Field t f) x e = chosen (has_instance ds (capitals t.text)) refl e
   where
     chosen : (b : Bool) → has_instance ds (capitals t.text) ≡ b → cond b (Ok (operands.Field (capitals t.text) (capitals f.text))) (refused kinds.UnknownName t) ≡ Ok x → IsGiven ds x
     chosen true g h = subst (IsGiven ds) (ok_is (operands.Field (capitals t.text) (capitals f.text)) x h) (record { value = refl; lawful = g })
@@ -567,31 +599,31 @@ record IsBehind (ds : Declarations) (op : Op) (m : Modifier) (x : Operand) : Typ
   formed : formed_by (usage_of op) m (as_value x) ≡ true
   lawful : IsOperand ds x
 
-behind_is : (ds : Declarations) (f : Form) (op : Op) (m : Modifier) (b : BehindText) (x : Operand) → accepts f b ≡ true → takes f op m ≡ true → behind_of ds b ≡ Ok x → IsBehind ds op (with_opening (opens b) m) x
-behind_is ds forms.Operand op m (Given y) x a k e =
-    let g = given_is ds y x e in
+behind_is : (dialect : Dialect) → (ds : Declarations) (f : Form) (op : Op) (m : Modifier) (b : BehindText) (x : Operand) → accepts f b ≡ true → takes f op m ≡ true → behind_of dialect ds b ≡ Ok x → IsBehind ds op (with_opening (opens b) m) x
+behind_is dialect ds forms.Operand op m (Given y) x a k e =
+    let g = given_is dialect ds y x e in
     let p = and_both _ _ k in
     record { letters = p.0; formed = value_formed (usage_of op) (with_opening false m) x g.value p.1; lawful = g.lawful }
-behind_is ds forms.Nothing op m Nothing x a k e =
+behind_is dialect ds forms.Nothing op m Nothing x a k e =
     let p = and_both _ _ k in
     subst (IsBehind ds op (with_opening false m)) (ok_is operands.Absent x e) (record { letters = p.0; formed = p.1; lawful = tt })
-behind_is ds forms.Label op m (Target t) x a k e =
+behind_is dialect ds forms.Label op m (Target t) x a k e =
     let p = and_both _ _ k in
     subst (IsBehind ds op (with_opening false m)) (ok_is (operands.Label (capitals t.text)) x e) (record { letters = p.0; formed = label_formed (usage_of op) (with_opening false m) (capitals t.text) p.1; lawful = tt })
-behind_is ds forms.Either op m (Given y) x a k e =
-    let g = given_is ds y x e in
+behind_is dialect ds forms.Either op m (Given y) x a k e =
+    let g = given_is dialect ds y x e in
     let p = and_both _ _ (and_both _ _ k).0 in
     record { letters = p.0; formed = value_formed (usage_of op) (with_opening false m) x g.value p.1; lawful = g.lawful }
-behind_is ds forms.Either op m (Opened None) x a k e =
+behind_is dialect ds forms.Either op m (Opened None) x a k e =
     let p = and_both _ _ (and_both _ _ k).1 in
     let q = and_both _ _ p.1 in
     subst (IsBehind ds op (with_opening true m)) (ok_is operands.Absent x e) (record { letters = p.0; formed = q.1; lawful = tt })
-behind_is ds forms.Either op m (Opened (Some y)) x a k e =
-    let g = given_is ds y x e in
+behind_is dialect ds forms.Either op m (Opened (Some y)) x a k e =
+    let g = given_is dialect ds y x e in
     let p = and_both _ _ (and_both _ _ k).1 in
     let q = and_both _ _ p.1 in
     record { letters = p.0; formed = value_formed (usage_of op) (with_opening true m) x g.value q.0; lawful = g.lawful }
-behind_is ds forms.Call op m (Called c) x a k e = chosen (has_instance ds (capitals c.instance.text)) refl e
+behind_is dialect ds forms.Call op m (Called c) x a k e = chosen (has_instance ds (capitals c.instance.text)) refl e
   where
     chosen : (b : Bool) → has_instance ds (capitals c.instance.text) ≡ b → cond b (Ok (operands.Instance (capitals c.instance.text))) (refused kinds.UnknownName c.instance) ≡ Ok x → IsBehind ds op (with_opening false m) x
     chosen true f h =
@@ -599,7 +631,7 @@ behind_is ds forms.Call op m (Called c) x a k e = chosen (has_instance ds (capit
         subst (IsBehind ds op (with_opening false m)) (ok_is (operands.Instance (capitals c.instance.text)) x h)
         (record { letters = p.0; formed = instance_formed (usage_of op) (with_opening false m) (capitals c.instance.text) p.1; lawful = f })
     chosen false f h = absurd cc
-behind_is ds f op m b x a k e = absurd cc
+behind_is dialect ds f op m b x a k e = absurd cc
 
 -- ---- arguments
 
@@ -617,21 +649,21 @@ all_anything (x ∷ xs) = (tt, all_anything xs)
 abbrev argument : ArgumentText → Operand → Argument
 argument a x = record { field = capitals a.field.text; side = a.side; operand = x }
 
-argument_is : (ds : Declarations) (a : ArgumentText) (x : Argument) → argument_of ds a ≡ Ok x → IsArgument ds x
+argument_is : (dialect : Dialect) → (ds : Declarations) (a : ArgumentText) (x : Argument) → argument_of dialect ds a ≡ Ok x → IsArgument ds x
 unfolding argument_of
-argument_is ds a x e =
-    let m = bind_ok (walk.operand_of ds a.operand) (λ o. Ok (argument a o)) x e in
-    let g = given_is ds a.operand m.0 m.1 in
+argument_is dialect ds a x e =
+    let m = bind_ok (walk.operand_of dialect ds a.operand) (λ o. Ok (argument a o)) x e in
+    let g = given_is dialect ds a.operand m.0 m.1 in
     subst (IsArgument ds) (ok_is (argument a m.0) x m.2) (record { operand = g.lawful; formed = value_form false m.0 g.value })
 
-argument_keeps : (ds : Declarations) (found : List Argument) (a : ArgumentText) (z : List Argument) → AllByRecursion (IsArgument ds) found → Anything a → pushed_argument ds found a ≡ Ok z → AllByRecursion (IsArgument ds) z
-argument_keeps ds found a z all any e =
-    let m = bind_ok (argument_of ds a) (λ x. Ok (found ++ x ∷ [])) z e in
-    subst (λ (xs : List Argument). AllByRecursion (IsArgument ds) xs) (ok_is (found ++ m.0 ∷ []) z m.2) (all_push (IsArgument ds) found m.0 all (argument_is ds a m.0 m.1))
+argument_keeps : (dialect : Dialect) → (ds : Declarations) (found : List Argument) (a : ArgumentText) (z : List Argument) → AllByRecursion (IsArgument ds) found → Anything a → pushed_argument dialect ds found a ≡ Ok z → AllByRecursion (IsArgument ds) z
+argument_keeps dialect ds found a z all any e =
+    let m = bind_ok (argument_of dialect ds a) (λ x. Ok (found ++ x ∷ [])) z e in
+    subst (λ (xs : List Argument). AllByRecursion (IsArgument ds) xs) (ok_is (found ++ m.0 ∷ []) z m.2) (all_push (IsArgument ds) found m.0 all (argument_is dialect ds a m.0 m.1))
 
-arguments_are : (ds : Declarations) (b : BehindText) (xs : List Argument) → behind_arguments ds b ≡ Ok xs → AllByRecursion (IsArgument ds) xs
-arguments_are ds (Called c) xs e = each_keeps (λ (found : List Argument). AllByRecursion (IsArgument ds) found) Anything (pushed_argument ds) (argument_keeps ds) [] (arguments_of c) xs tt (all_anything (arguments_of c)) e
-arguments_are ds b xs e = subst (λ (found : List Argument). AllByRecursion (IsArgument ds) found) (ok_is [] xs e) tt
+arguments_are : (dialect : Dialect) → (ds : Declarations) (b : BehindText) (xs : List Argument) → behind_arguments dialect ds b ≡ Ok xs → AllByRecursion (IsArgument ds) xs
+arguments_are dialect ds (Called c) xs e = each_keeps (λ (found : List Argument). AllByRecursion (IsArgument ds) found) Anything (pushed_argument dialect ds) (argument_keeps dialect ds) [] (arguments_of c) xs tt (all_anything (arguments_of c)) e
+arguments_are dialect ds b xs e = subst (λ (found : List Argument). AllByRecursion (IsArgument ds) found) (ok_is [] xs e) tt
 
 -- ---- lines
 
@@ -649,26 +681,26 @@ instruction label op m x arguments = record { label = label; op = op; modifier =
 abbrev operated : Option (List ℕ) → OperationText → Operand → List Argument → Instr
 operated label o x arguments = instruction label o.operator.mnemonic.op (with_opening (opens o.behind) o.operator.mnemonic.modifier) x arguments
 
-operation_is : (ds : Declarations) (label : Option (List ℕ)) (o : OperationText) (line : Instr) → IsLabel label → IsOperation o → instruction_of ds label (Some o) ≡ Ok line → IsInstruction ds line
+operation_is : (dialect : Dialect) → (ds : Declarations) (label : Option (List ℕ)) (o : OperationText) (line : Instr) → IsLabel label → IsOperation dialect o → instruction_of dialect ds label (Some o) ≡ Ok line → IsInstruction ds line
 unfolding instruction_of
-operation_is ds label o line labelled is e =
+operation_is dialect ds label o line labelled is e =
     let op = o.operator.mnemonic.op in
     let m = o.operator.mnemonic.modifier in
-    let a = bind_ok (behind_of ds o.behind) (λ x. behind_arguments ds o.behind >>= λ arguments. Ok (operated label o x arguments)) line e in
-    let c = bind_ok (behind_arguments ds o.behind) (λ arguments. Ok (operated label o a.0 arguments)) line a.2 in
-    let t = taken o.behind is.0 o.operator is.1 in
+    let a = bind_ok (behind_of dialect ds o.behind) (λ x. behind_arguments dialect ds o.behind >>= λ arguments. Ok (operated label o x arguments)) line e in
+    let c = bind_ok (behind_arguments dialect ds o.behind) (λ arguments. Ok (operated label o a.0 arguments)) line a.2 in
+    let t = taken dialect o.behind is.0 o.operator is.1 in
     let p = and_both _ _ t.fits in
-    let b = behind_is ds (form_of op) op m o.behind a.0 t.takes p.1 a.1 in
+    let b = behind_is dialect ds (form_of op) op m o.behind a.0 t.takes p.1 a.1 in
     let full : is_empty op ≡ false = not_true (is_empty op) p.0 in
     subst (IsInstruction ds) (ok_is (operated label o a.0 c.0) line c.2)
-    (record { label = labelled; letters = b.letters; operand = b.lawful; formed = b.formed; arguments = arguments_are ds o.behind c.0 c.1; placed = rw full refl })
+    (record { label = labelled; letters = b.letters; operand = b.lawful; formed = b.formed; arguments = arguments_are dialect ds o.behind c.0 c.1; placed = rw full refl })
 
-optional_is : (ds : Declarations) (name : List ℕ) (o : Option OperationText) (line : Instr) → IsLabel (Some name) → IsOptionalOperation o → instruction_of ds (Some name) o ≡ Ok line → IsInstruction ds line
+optional_is : (dialect : Dialect) → (ds : Declarations) (name : List ℕ) (o : Option OperationText) (line : Instr) → IsLabel (Some name) → IsOptionalOperation dialect o → instruction_of dialect ds (Some name) o ≡ Ok line → IsInstruction ds line
 unfolding instruction_of
-optional_is ds name None line labelled is e =
+optional_is dialect ds name None line labelled is e =
     subst (IsInstruction ds) (ok_is (instruction (Some name) ops.Empty resolution.plain operands.Absent []) line e)
     (record { label = labelled; letters = refl; operand = tt; formed = refl; arguments = tt; placed = refl })
-optional_is ds name (Some o) line labelled is e = operation_is ds (Some name) o line labelled is e
+optional_is dialect ds name (Some o) line labelled is e = operation_is dialect ds (Some name) o line labelled is e
 
 pub record FineCode (ds : Declarations) (code : List Instr) : Type 0 where
   pub all : AllByRecursion (IsInstruction ds) code
@@ -683,36 +715,36 @@ code_push ds code line left u fine free is =
     has_room true f h = absurd cc
     has_room false f h = leb-false 4096 (length code) f
 
-labelled_keeps : (ds : Declarations) (code : List Instr) (t : Token) (o : Option OperationText) (z : List Instr) → FineCode ds code → IsWordText t.text → IsOptionalOperation o → instruct_labelled ds code t o ≡ Ok z → FineCode ds z
+labelled_keeps : (dialect : Dialect) → (ds : Declarations) (code : List Instr) (t : Token) (o : Option OperationText) (z : List Instr) → FineCode ds code → IsWordText t.text → IsOptionalOperation dialect o → instruct_labelled dialect ds code t o ≡ Ok z → FineCode ds z
 unfolding instruct_labelled
-labelled_keeps ds code t o z fine word is e =
-    let a = bind_ok (label_of t) (λ label. room code t.left >>= λ here. instruction_of ds (Some label) o >>= λ line. Ok (code ++ line ∷ [])) z e in
-    let b = bind_ok (room code t.left) (λ here. instruction_of ds (Some a.0) o >>= λ line. Ok (code ++ line ∷ [])) z a.2 in
-    let c = bind_ok (instruction_of ds (Some a.0) o) (λ line. Ok (code ++ line ∷ [])) z b.2 in
-    subst (FineCode ds) (ok_is (code ++ c.0 ∷ []) z c.2) (code_push ds code c.0 t.left b.0 fine b.1 (optional_is ds a.0 o c.0 (label_is t a.0 word a.1) is c.1))
+labelled_keeps dialect ds code t o z fine word is e =
+    let a = bind_ok (label_of t) (λ label. room code t.left >>= λ here. instruction_of dialect ds (Some label) o >>= λ line. Ok (code ++ line ∷ [])) z e in
+    let b = bind_ok (room code t.left) (λ here. instruction_of dialect ds (Some a.0) o >>= λ line. Ok (code ++ line ∷ [])) z a.2 in
+    let c = bind_ok (instruction_of dialect ds (Some a.0) o) (λ line. Ok (code ++ line ∷ [])) z b.2 in
+    subst (FineCode ds) (ok_is (code ++ c.0 ∷ []) z c.2) (code_push ds code c.0 t.left b.0 fine b.1 (optional_is dialect ds a.0 o c.0 (label_is t a.0 word a.1) is c.1))
 
-plain_keeps : (ds : Declarations) (code : List Instr) (o : OperationText) (z : List Instr) → FineCode ds code → IsOperation o → instruct_plain ds code o ≡ Ok z → FineCode ds z
+plain_keeps : (dialect : Dialect) → (ds : Declarations) (code : List Instr) (o : OperationText) (z : List Instr) → FineCode ds code → IsOperation dialect o → instruct_plain dialect ds code o ≡ Ok z → FineCode ds z
 unfolding instruct_plain
-plain_keeps ds code o z fine is e =
-    let b = bind_ok (room code o.operator.left) (λ here. instruction_of ds None (Some o) >>= λ line. Ok (code ++ line ∷ [])) z e in
-    let c = bind_ok (instruction_of ds None (Some o)) (λ line. Ok (code ++ line ∷ [])) z b.2 in
-    subst (FineCode ds) (ok_is (code ++ c.0 ∷ []) z c.2) (code_push ds code c.0 o.operator.left b.0 fine b.1 (operation_is ds None o c.0 tt is c.1))
+plain_keeps dialect ds code o z fine is e =
+    let b = bind_ok (room code o.operator.left) (λ here. instruction_of dialect ds None (Some o) >>= λ line. Ok (code ++ line ∷ [])) z e in
+    let c = bind_ok (instruction_of dialect ds None (Some o)) (λ line. Ok (code ++ line ∷ [])) z b.2 in
+    subst (FineCode ds) (ok_is (code ++ c.0 ∷ []) z c.2) (code_push ds code c.0 o.operator.left b.0 fine b.1 (operation_is dialect ds None o c.0 tt is c.1))
 
-line_keeps : (ds : Declarations) (code : List Instr) (l : LineText) (z : List Instr) → FineCode ds code → IsOperator l → instruct ds code l ≡ Ok z → FineCode ds z
-line_keeps ds code (Labelled t o) z fine is e = labelled_keeps ds code t o z fine is.0 is.1 e
-line_keeps ds code (Plain o) z fine is e = plain_keeps ds code o z fine is e
+line_keeps : (dialect : Dialect) → (ds : Declarations) (code : List Instr) (l : LineText) (z : List Instr) → FineCode ds code → IsOperator dialect l → instruct dialect ds code l ≡ Ok z → FineCode ds z
+line_keeps dialect ds code (Labelled t o) z fine is e = labelled_keeps dialect ds code t o z fine is.0 is.1 e
+line_keeps dialect ds code (Plain o) z fine is e = plain_keeps dialect ds code o z fine is e
 
-pub lines_fine : (ds : Declarations) (ls : List LineText) (z : List Instr) → AllByRecursion IsOperator ls → each (instruct ds) [] ls ≡ Ok z → FineCode ds z
-lines_fine ds ls z words e = each_keeps (FineCode ds) IsOperator (instruct ds) (line_keeps ds) [] ls z (record { all = tt; few = omega arith }) words e
+pub lines_fine : (dialect : Dialect) → (ds : Declarations) (ls : List LineText) (z : List Instr) → AllByRecursion (IsOperator dialect) ls → each (instruct dialect ds) [] ls ≡ Ok z → FineCode ds z
+lines_fine dialect ds ls z words e = each_keeps (FineCode ds) (IsOperator dialect) (instruct dialect ds) (line_keeps dialect ds) [] ls z (record { all = tt; few = omega arith }) words e
 
 -- ---- the whole
 
 -- the parts that a text's program is made of
-pub parts_fit : (p : ProgramText) (bs : List (List DeclarationText)) (ls : List LineText) (known : Declarations) (vs : List Variable) (xs : List Instance) (code : List Instr) → AreWords p → bs ≡ p.blocks → ls ≡ p.lines
-    → vs ≡ known.variables → xs ≡ known.instances → each declare_block nothing bs ≡ Ok known → each (instruct known) [] ls ≡ Ok code → IsDeclared (record { variables = vs; instances = xs; code = code })
-parts_fit p bs ls known vs xs code words b l v x e f =
-    let declared = blocks_fine p.blocks known words.blocks (subst (λ (y : List (List DeclarationText)). each declare_block nothing y ≡ Ok known) b e) in
-    let lines = lines_fine known p.lines code words.lines (subst (λ (y : List LineText). each (instruct known) [] y ≡ Ok code) l f) in
+pub parts_fit : (dialect : Dialect) → (p : ProgramText) (bs : List (List DeclarationText)) (ls : List LineText) (known : Declarations) (vs : List Variable) (xs : List Instance) (code : List Instr) → AreWords dialect p → bs ≡ p.blocks → ls ≡ p.lines
+    → vs ≡ known.variables → xs ≡ known.instances → each (declare_block dialect) nothing bs ≡ Ok known → each (instruct dialect known) [] ls ≡ Ok code → IsDeclared (record { variables = vs; instances = xs; code = code })
+parts_fit dialect p bs ls known vs xs code words b l v x e f =
+    let declared = blocks_fine dialect p.blocks known words.blocks (subst (λ (y : List (List DeclarationText)). each (declare_block dialect) nothing y ≡ Ok known) b e) in
+    let lines = lines_fine dialect known p.lines code words.lines (subst (λ (y : List LineText). each (instruct dialect known) [] y ≡ Ok code) l f) in
     subst (λ (ws : List Variable). IsDeclared (record { variables = ws; instances = xs; code = code })) (sym v)
     (subst (λ (ys : List Instance). IsDeclared (record { variables = known.variables; instances = ys; code = code })) (sym x)
     (record { variables = declared.variables; variables_few = declared.variables_few; instances = declared.instances; instances_few = declared.instances_few; lines = lines.all; lines_few = lines.few }))

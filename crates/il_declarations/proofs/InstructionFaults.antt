@@ -3,6 +3,8 @@ use Rattle.std.proofs.Common.{◌≡◌, ℕ, suc, Bool, true, false, cond, leb,
 use Rattle.std.specs.Prelude.{is_none, nat_le}
 use Rattle.std.specs.List.{flat_map, AllZip}
 use Rattle.std.specs.Option.{option_map}
+use Rattle.il_model.specs.declared.dialect.Dialect.{Dialect}
+use Rattle.il_model.specs.Dialects.{literal_in}
 use Rattle.il_model.specs.declared.literal.Literal.{Literal}
 use Rattle.il_model.specs.declared.literal.Literal.TheVariants.{Bare, Typed}
 use Rattle.il_model.specs.declared.op.Op.TheVariants as ops
@@ -13,7 +15,6 @@ use Rattle.il_model.specs.declared.program.Argument.{Argument}
 use Rattle.il_model.specs.declared.program.Instr.{Instr}
 use Rattle.il_model.specs.Program.{Program, Declarations}
 use Rattle.il_model.specs.Words.{is_reserved}
-use Rattle.il_model.specs.Literals.{literal_of}
 use Rattle.il_model.specs.Locations as written
 use Rattle.il_reader.specs.Tokens.{Token}
 use Rattle.il_reader.specs.Grammar.{OperandText, Constant, Direct, Named, Field, BehindText, Nothing, Given, Target, Opened, Called, ArgumentText, arguments_of, OperationText, LineText, Labelled, Plain, ProgramText}
@@ -42,54 +43,54 @@ asked_gives : {A : Type 0} (b : Bool) (f : FaultAt) (x y : A) → cond b (done x
 asked_gives true f x y e = ok_is x y e
 asked_gives false f x y e = absurd cc
 
-operand_agrees : (names : List DeclaredName) (x : OperandText) → Agrees (operand_of (made names) x) (operand_faults names x)
-operand_agrees names (Constant t) = by_literal (literal_of t.text)
+operand_agrees : (dialect : Dialect) → (names : List DeclaredName) (x : OperandText) → Agrees (operand_of dialect (made dialect names) x) (operand_faults dialect names x)
+operand_agrees dialect names (Constant t) = by_literal (literal_in dialect t.text)
   where
     by_literal : (o : Option Literal) → Agrees (constant t o) (when (is_none o) kinds.UnknownName t.left)
     by_literal None = ([], refl)
     by_literal (Some (Bare z)) = refl
     by_literal (Some (Typed v)) = refl
-operand_agrees names (Direct t) = by_location (written.location_of t.text)
+operand_agrees dialect names (Direct t) = by_location (written.location_of t.text)
   where
     by_location : (o : Option Loc) → Agrees (direct t o) (when (is_none o) kinds.BadLocation t.left)
     by_location None = ([], refl)
     by_location (Some loc) = refl
-operand_agrees names (Named t) = asked_agrees _ _ (name_known names (capitals t.text)) kinds.UnknownName t.left (operands.Variable (capitals t.text))
-operand_agrees names (Field t f) = asked_agrees _ _ (instance_known names (capitals t.text)) kinds.UnknownName t.left (operands.Field (capitals t.text) (capitals f.text))
+operand_agrees dialect names (Named t) = asked_agrees _ _ (name_known dialect names (capitals t.text)) kinds.UnknownName t.left (operands.Variable (capitals t.text))
+operand_agrees dialect names (Field t f) = asked_agrees _ _ (instance_known dialect names (capitals t.text)) kinds.UnknownName t.left (operands.Field (capitals t.text) (capitals f.text))
 
 abbrev some : Operand → Option Operand
 some x = Some x
 
-operand_gives : (known : Declarations) (x : OperandText) (y : Operand) → operand_of known x ≡ Ok y → operand_in x ≡ Some y
-operand_gives known (Constant t) y e = by_literal (literal_of t.text) e
+operand_gives : (dialect : Dialect) → (known : Declarations) (x : OperandText) (y : Operand) → operand_of dialect known x ≡ Ok y → operand_in dialect x ≡ Some y
+operand_gives dialect known (Constant t) y e = by_literal (literal_in dialect t.text) e
   where
     by_literal : (o : Option Literal) → constant t o ≡ Ok y → option_map value_operand o ≡ Some y
     by_literal None h = absurd cc
     by_literal (Some (Bare z)) h = ap some (ok_is (operands.Bare z) y h)
     by_literal (Some (Typed v)) h = ap some (ok_is (operands.Literal v) y h)
-operand_gives known (Direct t) y e = by_location (written.location_of t.text) e
+operand_gives dialect known (Direct t) y e = by_location (written.location_of t.text) e
   where
     by_location : (o : Option Loc) → direct t o ≡ Ok y → option_map (λ loc. operands.Direct loc) o ≡ Some y
     by_location None h = absurd cc
     by_location (Some loc) h = ap some (ok_is (operands.Direct loc) y h)
-operand_gives known (Named t) y e = ap some (asked_gives (has_name known (capitals t.text)) _ _ y e)
-operand_gives known (Field t f) y e = ap some (asked_gives (has_instance known (capitals t.text)) _ _ y e)
+operand_gives dialect known (Named t) y e = ap some (asked_gives (has_name known (capitals t.text)) _ _ y e)
+operand_gives dialect known (Field t f) y e = ap some (asked_gives (has_instance known (capitals t.text)) _ _ y e)
 
-behind_agrees : (names : List DeclaredName) (b : BehindText) → Agrees (behind_of (made names) b) (behind_faults names b)
-behind_agrees names Nothing = refl
-behind_agrees names (Given x) = operand_agrees names x
-behind_agrees names (Target t) = refl
-behind_agrees names (Opened None) = refl
-behind_agrees names (Opened (Some x)) = operand_agrees names x
-behind_agrees names (Called c) = asked_agrees _ _ (instance_known names (capitals c.instance.text)) kinds.UnknownName c.instance.left (operands.Instance (capitals c.instance.text))
+behind_agrees : (dialect : Dialect) → (names : List DeclaredName) (b : BehindText) → Agrees (behind_of dialect (made dialect names) b) (behind_faults dialect names b)
+behind_agrees dialect names Nothing = refl
+behind_agrees dialect names (Given x) = operand_agrees dialect names x
+behind_agrees dialect names (Target t) = refl
+behind_agrees dialect names (Opened None) = refl
+behind_agrees dialect names (Opened (Some x)) = operand_agrees dialect names x
+behind_agrees dialect names (Called c) = asked_agrees _ _ (instance_known dialect names (capitals c.instance.text)) kinds.UnknownName c.instance.left (operands.Instance (capitals c.instance.text))
 
-behind_gives : (known : Declarations) (b : BehindText) (y : Operand) → behind_of known b ≡ Ok y → operand_behind b ≡ Some y
-behind_gives known Nothing y e = ap some (ok_is operands.Absent y e)
-behind_gives known (Given x) y e = operand_gives known x y e
-behind_gives known (Target t) y e = ap some (ok_is (operands.Label (capitals t.text)) y e)
-behind_gives known (Opened None) y e = ap some (ok_is operands.Absent y e)
-behind_gives known (Opened (Some x)) y e = operand_gives known x y e
-behind_gives known (Called c) y e = ap some (asked_gives (has_instance known (capitals c.instance.text)) _ _ y e)
+behind_gives : (dialect : Dialect) → (known : Declarations) (b : BehindText) (y : Operand) → behind_of dialect known b ≡ Ok y → operand_behind dialect b ≡ Some y
+behind_gives dialect known Nothing y e = ap some (ok_is operands.Absent y e)
+behind_gives dialect known (Given x) y e = operand_gives dialect known x y e
+behind_gives dialect known (Target t) y e = ap some (ok_is (operands.Label (capitals t.text)) y e)
+behind_gives dialect known (Opened None) y e = ap some (ok_is operands.Absent y e)
+behind_gives dialect known (Opened (Some x)) y e = operand_gives dialect known x y e
+behind_gives dialect known (Called c) y e = ap some (asked_gives (has_instance known (capitals c.instance.text)) _ _ y e)
 
 -- ---- arguments
 
@@ -108,70 +109,70 @@ zip_length R (z ∷ xs) (w ∷ ys) all = ap suc (zip_length R xs ys all.1)
 abbrev Anything : List ArgumentText → List Argument → Type 0
 Anything before found = Unit {0}
 
-argument_agrees : (names : List DeclaredName) (a : ArgumentText) (found : List Argument) → Agrees (pushed_argument (made names) found a) (operand_faults names a.operand)
+argument_agrees : (dialect : Dialect) → (names : List DeclaredName) (a : ArgumentText) (found : List Argument) → Agrees (pushed_argument dialect (made dialect names) found a) (operand_faults dialect names a.operand)
 unfolding argument_of
-argument_agrees names a found =
-    made_agrees (argument_of (made names) a) (λ x. found ++ x ∷ []) (operand_faults names a.operand)
-    (made_agrees (operand_of (made names) a.operand) (λ x. record { field = capitals a.field.text; side = a.side; operand = x }) (operand_faults names a.operand) (operand_agrees names a.operand))
+argument_agrees dialect names a found =
+    made_agrees (argument_of dialect (made dialect names) a) (λ x. found ++ x ∷ []) (operand_faults dialect names a.operand)
+    (made_agrees (operand_of dialect (made dialect names) a.operand) (λ x. record { field = capitals a.field.text; side = a.side; operand = x }) (operand_faults dialect names a.operand) (operand_agrees dialect names a.operand))
 
-arguments_agree : (names : List DeclaredName) (b : BehindText) → Agrees (behind_arguments (made names) b) (flat_map (λ a. operand_faults names a.operand) (arguments_behind b))
-arguments_agree names Nothing = refl
-arguments_agree names (Given x) = refl
-arguments_agree names (Target t) = refl
-arguments_agree names (Opened o) = refl
-arguments_agree names (Called c) =
-    subst (λ (fs : List FaultAt). Agrees (each (pushed_argument (made names)) [] (arguments_of c)) fs) (each_by_itself (λ a. operand_faults names a.operand) [] (arguments_of c))
-    (each_agrees Anything (pushed_argument (made names)) (λ b a. operand_faults names a.operand) (λ b a found any. argument_agrees names a found) (λ b a found more any e. tt) [] (arguments_of c) [] tt)
+arguments_agree : (dialect : Dialect) → (names : List DeclaredName) (b : BehindText) → Agrees (behind_arguments dialect (made dialect names) b) (flat_map (λ a. operand_faults dialect names a.operand) (arguments_behind b))
+arguments_agree dialect names Nothing = refl
+arguments_agree dialect names (Given x) = refl
+arguments_agree dialect names (Target t) = refl
+arguments_agree dialect names (Opened o) = refl
+arguments_agree dialect names (Called c) =
+    subst (λ (fs : List FaultAt). Agrees (each (pushed_argument dialect (made dialect names)) [] (arguments_of c)) fs) (each_by_itself (λ a. operand_faults dialect names a.operand) [] (arguments_of c))
+    (each_agrees Anything (pushed_argument dialect (made dialect names)) (λ b a. operand_faults dialect names a.operand) (λ b a found any. argument_agrees dialect names a found) (λ b a found more any e. tt) [] (arguments_of c) [] tt)
 
-argument_gives : (known : Declarations) (a : ArgumentText) (x : Argument) → argument_of known a ≡ Ok x → IsArgumentOf a x
+argument_gives : (dialect : Dialect) → (known : Declarations) (a : ArgumentText) (x : Argument) → argument_of dialect known a ≡ Ok x → IsArgumentOf dialect a x
 unfolding argument_of
-argument_gives known a x e =
-    let m = bind_ok (operand_of known a.operand) (λ y. Ok (record { field = capitals a.field.text; side = a.side; operand = y })) x e in
-    subst (IsArgumentOf a) (ok_is (record { field = capitals a.field.text; side = a.side; operand = m.0 }) x m.2) (record { field = refl; side = refl; operand = operand_gives known a.operand m.0 m.1 })
+argument_gives dialect known a x e =
+    let m = bind_ok (operand_of dialect known a.operand) (λ y. Ok (record { field = capitals a.field.text; side = a.side; operand = y })) x e in
+    subst (IsArgumentOf dialect a) (ok_is (record { field = capitals a.field.text; side = a.side; operand = m.0 }) x m.2) (record { field = refl; side = refl; operand = operand_gives dialect known a.operand m.0 m.1 })
 
-argument_kept : (known : Declarations) (before : List ArgumentText) (a : ArgumentText) (found more : List Argument) → AllZip IsArgumentOf before found → pushed_argument known found a ≡ Ok more → AllZip IsArgumentOf (before ++ a ∷ []) more
-argument_kept known before a found more all e =
-    let m = bind_ok (argument_of known a) (λ x. Ok (found ++ x ∷ [])) more e in
-    subst (λ (xs : List Argument). AllZip IsArgumentOf (before ++ a ∷ []) xs) (ok_is (found ++ m.0 ∷ []) more m.2) (zip_push IsArgumentOf before found a m.0 all (argument_gives known a m.0 m.1))
+argument_kept : (dialect : Dialect) → (known : Declarations) (before : List ArgumentText) (a : ArgumentText) (found more : List Argument) → AllZip (IsArgumentOf dialect) before found → pushed_argument dialect known found a ≡ Ok more → AllZip (IsArgumentOf dialect) (before ++ a ∷ []) more
+argument_kept dialect known before a found more all e =
+    let m = bind_ok (argument_of dialect known a) (λ x. Ok (found ++ x ∷ [])) more e in
+    subst (λ (xs : List Argument). AllZip (IsArgumentOf dialect) (before ++ a ∷ []) xs) (ok_is (found ++ m.0 ∷ []) more m.2) (zip_push (IsArgumentOf dialect) before found a m.0 all (argument_gives dialect known a m.0 m.1))
 
 abbrev no_arguments : List Argument
 no_arguments = []
 
-arguments_given : (known : Declarations) (b : BehindText) (xs : List Argument) → behind_arguments known b ≡ Ok xs → AllZip IsArgumentOf (arguments_behind b) xs
-arguments_given known Nothing xs e = subst (λ (ys : List Argument). AllZip IsArgumentOf [] ys) (ok_is no_arguments xs e) tt
-arguments_given known (Given x) xs e = subst (λ (ys : List Argument). AllZip IsArgumentOf [] ys) (ok_is no_arguments xs e) tt
-arguments_given known (Target t) xs e = subst (λ (ys : List Argument). AllZip IsArgumentOf [] ys) (ok_is no_arguments xs e) tt
-arguments_given known (Opened o) xs e = subst (λ (ys : List Argument). AllZip IsArgumentOf [] ys) (ok_is no_arguments xs e) tt
-arguments_given known (Called c) xs e = each_kept (λ before found. AllZip IsArgumentOf before found) (pushed_argument known) (argument_kept known) [] (arguments_of c) [] xs tt e
+arguments_given : (dialect : Dialect) → (known : Declarations) (b : BehindText) (xs : List Argument) → behind_arguments dialect known b ≡ Ok xs → AllZip (IsArgumentOf dialect) (arguments_behind b) xs
+arguments_given dialect known Nothing xs e = subst (λ (ys : List Argument). AllZip (IsArgumentOf dialect) [] ys) (ok_is no_arguments xs e) tt
+arguments_given dialect known (Given x) xs e = subst (λ (ys : List Argument). AllZip (IsArgumentOf dialect) [] ys) (ok_is no_arguments xs e) tt
+arguments_given dialect known (Target t) xs e = subst (λ (ys : List Argument). AllZip (IsArgumentOf dialect) [] ys) (ok_is no_arguments xs e) tt
+arguments_given dialect known (Opened o) xs e = subst (λ (ys : List Argument). AllZip (IsArgumentOf dialect) [] ys) (ok_is no_arguments xs e) tt
+arguments_given dialect known (Called c) xs e = each_kept (λ before found. AllZip (IsArgumentOf dialect) before found) (pushed_argument dialect known) (argument_kept dialect known) [] (arguments_of c) [] xs tt e
 
 -- ---- lines
 
 abbrev instruction : Option (List ℕ) → OperationText → Operand → List Argument → Instr
 instruction label o x arguments = record { label = label; op = o.operator.mnemonic.op; modifier = with_opening (opens o.behind) o.operator.mnemonic.modifier; operand = x; arguments = arguments }
 
-instruction_agrees : (names : List DeclaredName) (label : Option (List ℕ)) (o : Option OperationText) → Agrees (instruction_of (made names) label o) (operation_faults names o)
+instruction_agrees : (dialect : Dialect) → (names : List DeclaredName) (label : Option (List ℕ)) (o : Option OperationText) → Agrees (instruction_of dialect (made dialect names) label o) (operation_faults dialect names o)
 unfolding instruction_of
-instruction_agrees names label None = refl
-instruction_agrees names label (Some o) =
-    then_agrees (behind_of (made names) o.behind) (λ x. behind_arguments (made names) o.behind >>= λ arguments. Ok (instruction label o x arguments)) _ _ (behind_agrees names o.behind)
-    (λ x e. made_agrees (behind_arguments (made names) o.behind) (λ arguments. instruction label o x arguments) _ (arguments_agree names o.behind))
+instruction_agrees dialect names label None = refl
+instruction_agrees dialect names label (Some o) =
+    then_agrees (behind_of dialect (made dialect names) o.behind) (λ x. behind_arguments dialect (made dialect names) o.behind >>= λ arguments. Ok (instruction label o x arguments)) _ _ (behind_agrees dialect names o.behind)
+    (λ x e. made_agrees (behind_arguments dialect (made dialect names) o.behind) (λ arguments. instruction label o x arguments) _ (arguments_agree dialect names o.behind))
 
-record IsGiven (name : Option (List ℕ)) (o : Option OperationText) (x : Instr) : Type 0 where
+record IsGiven (dialect : Dialect) (name : Option (List ℕ)) (o : Option OperationText) (x : Instr) : Type 0 where
   label : x.label ≡ name
-  is : IsBehindLabel o x
+  is : IsBehindLabel dialect o x
 
-instruction_gives : (known : Declarations) (label : Option (List ℕ)) (o : Option OperationText) (x : Instr) → instruction_of known label o ≡ Ok x → IsGiven label o x
+instruction_gives : (dialect : Dialect) → (known : Declarations) (label : Option (List ℕ)) (o : Option OperationText) (x : Instr) → instruction_of dialect known label o ≡ Ok x → IsGiven dialect label o x
 unfolding instruction_of
-instruction_gives known label None x e =
-    subst (IsGiven label None) (ok_is (record { label = label; op = ops.Empty; modifier = plain; operand = operands.Absent; arguments = [] }) x e) (record { label = refl; is = record { op = refl; modifier = refl; operand = refl; arguments = refl } })
-instruction_gives known label (Some o) x e =
-    let a = bind_ok (behind_of known o.behind) (λ y. behind_arguments known o.behind >>= λ arguments. Ok (instruction label o y arguments)) x e in
-    let b = bind_ok (behind_arguments known o.behind) (λ arguments. Ok (instruction label o a.0 arguments)) x a.2 in
-    subst (IsGiven label (Some o)) (ok_is (instruction label o a.0 b.0) x b.2)
-    (record { label = refl; is = record { op = refl; modifier = refl; operand = behind_gives known o.behind a.0 a.1; arguments = arguments_given known o.behind b.0 b.1 } })
+instruction_gives dialect known label None x e =
+    subst (IsGiven dialect label None) (ok_is (record { label = label; op = ops.Empty; modifier = plain; operand = operands.Absent; arguments = [] }) x e) (record { label = refl; is = record { op = refl; modifier = refl; operand = refl; arguments = refl } })
+instruction_gives dialect known label (Some o) x e =
+    let a = bind_ok (behind_of dialect known o.behind) (λ y. behind_arguments dialect known o.behind >>= λ arguments. Ok (instruction label o y arguments)) x e in
+    let b = bind_ok (behind_arguments dialect known o.behind) (λ arguments. Ok (instruction label o a.0 arguments)) x a.2 in
+    subst (IsGiven dialect label (Some o)) (ok_is (instruction label o a.0 b.0) x b.2)
+    (record { label = refl; is = record { op = refl; modifier = refl; operand = behind_gives dialect known o.behind a.0 a.1; arguments = arguments_given dialect known o.behind b.0 b.1 } })
 
-room_agrees : (before : List LineText) (code : List Instr) (left : ℕ) → AllZip IsInstructionOf before code → Agrees (room code left) (when (nat_le 4096 (length before)) kinds.TooMany left)
-room_agrees before code left all = last_agrees _ _ (ap (leb 4096) (zip_length IsInstructionOf before code all)) kinds.TooMany left tt
+room_agrees : (dialect : Dialect) → (before : List LineText) (code : List Instr) (left : ℕ) → AllZip (IsInstructionOf dialect) before code → Agrees (room code left) (when (nat_le 4096 (length before)) kinds.TooMany left)
+room_agrees dialect before code left all = last_agrees _ _ (ap (leb 4096) (zip_length (IsInstructionOf dialect) before code all)) kinds.TooMany left tt
 
 label_agrees : (t : Token) → Agrees (label_of t) (when (is_reserved (capitals t.text)) kinds.ReservedName t.left)
 label_agrees t = last_agrees (is_reserved (capitals t.text)) _ refl kinds.ReservedName t.left (capitals t.text)
@@ -183,50 +184,50 @@ label_gives t name e = chosen (is_reserved (capitals t.text)) e
     chosen true h = absurd cc
     chosen false h = ok_is (capitals t.text) name h
 
-labelled_agrees : (names : List DeclaredName) (before : List LineText) (code : List Instr) (t : Token) (o : Option OperationText) → AllZip IsInstructionOf before code → Agrees (instruct_labelled (made names) code t o) (line_faults names before (Labelled t o))
+labelled_agrees : (dialect : Dialect) → (names : List DeclaredName) (before : List LineText) (code : List Instr) (t : Token) (o : Option OperationText) → AllZip (IsInstructionOf dialect) before code → Agrees (instruct_labelled dialect (made dialect names) code t o) (line_faults dialect names before (Labelled t o))
 unfolding instruct_labelled
-labelled_agrees names before code t o all =
-    then_agrees (label_of t) (λ label. room code t.left >>= λ here. instruction_of (made names) (Some label) o >>= λ line. Ok (code ++ line ∷ [])) _ _ (label_agrees t)
-    (λ label e. then_agrees (room code t.left) (λ here. instruction_of (made names) (Some label) o >>= λ line. Ok (code ++ line ∷ [])) _ _ (room_agrees before code t.left all)
-    (λ here f. made_agrees (instruction_of (made names) (Some label) o) (λ line. code ++ line ∷ []) _ (instruction_agrees names (Some label) o)))
+labelled_agrees dialect names before code t o all =
+    then_agrees (label_of t) (λ label. room code t.left >>= λ here. instruction_of dialect (made dialect names) (Some label) o >>= λ line. Ok (code ++ line ∷ [])) _ _ (label_agrees t)
+    (λ label e. then_agrees (room code t.left) (λ here. instruction_of dialect (made dialect names) (Some label) o >>= λ line. Ok (code ++ line ∷ [])) _ _ (room_agrees dialect before code t.left all)
+    (λ here f. made_agrees (instruction_of dialect (made dialect names) (Some label) o) (λ line. code ++ line ∷ []) _ (instruction_agrees dialect names (Some label) o)))
 
-plain_agrees : (names : List DeclaredName) (before : List LineText) (code : List Instr) (o : OperationText) → AllZip IsInstructionOf before code → Agrees (instruct_plain (made names) code o) (line_faults names before (Plain o))
+plain_agrees : (dialect : Dialect) → (names : List DeclaredName) (before : List LineText) (code : List Instr) (o : OperationText) → AllZip (IsInstructionOf dialect) before code → Agrees (instruct_plain dialect (made dialect names) code o) (line_faults dialect names before (Plain o))
 unfolding instruct_plain
-plain_agrees names before code o all =
-    then_agrees (room code o.operator.left) (λ here. instruction_of (made names) None (Some o) >>= λ line. Ok (code ++ line ∷ [])) _ _ (room_agrees before code o.operator.left all)
-    (λ here f. made_agrees (instruction_of (made names) None (Some o)) (λ line. code ++ line ∷ []) _ (instruction_agrees names None (Some o)))
+plain_agrees dialect names before code o all =
+    then_agrees (room code o.operator.left) (λ here. instruction_of dialect (made dialect names) None (Some o) >>= λ line. Ok (code ++ line ∷ [])) _ _ (room_agrees dialect before code o.operator.left all)
+    (λ here f. made_agrees (instruction_of dialect (made dialect names) None (Some o)) (λ line. code ++ line ∷ []) _ (instruction_agrees dialect names None (Some o)))
 
-line_agrees : (names : List DeclaredName) (before : List LineText) (l : LineText) (code : List Instr) → AllZip IsInstructionOf before code → Agrees (instruct (made names) code l) (line_faults names before l)
-line_agrees names before (Labelled t o) code all = labelled_agrees names before code t o all
-line_agrees names before (Plain o) code all = plain_agrees names before code o all
+line_agrees : (dialect : Dialect) → (names : List DeclaredName) (before : List LineText) (l : LineText) (code : List Instr) → AllZip (IsInstructionOf dialect) before code → Agrees (instruct dialect (made dialect names) code l) (line_faults dialect names before l)
+line_agrees dialect names before (Labelled t o) code all = labelled_agrees dialect names before code t o all
+line_agrees dialect names before (Plain o) code all = plain_agrees dialect names before code o all
 
-labelled_kept : (known : Declarations) (before : List LineText) (code more : List Instr) (t : Token) (o : Option OperationText) → AllZip IsInstructionOf before code → instruct_labelled known code t o ≡ Ok more → AllZip IsInstructionOf (before ++ Labelled t o ∷ []) more
+labelled_kept : (dialect : Dialect) → (known : Declarations) (before : List LineText) (code more : List Instr) (t : Token) (o : Option OperationText) → AllZip (IsInstructionOf dialect) before code → instruct_labelled dialect known code t o ≡ Ok more → AllZip (IsInstructionOf dialect) (before ++ Labelled t o ∷ []) more
 unfolding instruct_labelled
-labelled_kept known before code more t o all e =
-    let a = bind_ok (label_of t) (λ label. room code t.left >>= λ here. instruction_of known (Some label) o >>= λ line. Ok (code ++ line ∷ [])) more e in
-    let b = bind_ok (room code t.left) (λ here. instruction_of known (Some a.0) o >>= λ line. Ok (code ++ line ∷ [])) more a.2 in
-    let c = bind_ok (instruction_of known (Some a.0) o) (λ line. Ok (code ++ line ∷ [])) more b.2 in
-    let g = instruction_gives known (Some a.0) o c.0 c.1 in
-    subst (λ (xs : List Instr). AllZip IsInstructionOf (before ++ Labelled t o ∷ []) xs) (ok_is (code ++ c.0 ∷ []) more c.2)
-    (zip_push IsInstructionOf before code (Labelled t o) c.0 all (g.label ∙ ap (λ (name : List ℕ). Some name) (sym (label_gives t a.0 a.1)), g.is))
+labelled_kept dialect known before code more t o all e =
+    let a = bind_ok (label_of t) (λ label. room code t.left >>= λ here. instruction_of dialect known (Some label) o >>= λ line. Ok (code ++ line ∷ [])) more e in
+    let b = bind_ok (room code t.left) (λ here. instruction_of dialect known (Some a.0) o >>= λ line. Ok (code ++ line ∷ [])) more a.2 in
+    let c = bind_ok (instruction_of dialect known (Some a.0) o) (λ line. Ok (code ++ line ∷ [])) more b.2 in
+    let g = instruction_gives dialect known (Some a.0) o c.0 c.1 in
+    subst (λ (xs : List Instr). AllZip (IsInstructionOf dialect) (before ++ Labelled t o ∷ []) xs) (ok_is (code ++ c.0 ∷ []) more c.2)
+    (zip_push (IsInstructionOf dialect) before code (Labelled t o) c.0 all (g.label ∙ ap (λ (name : List ℕ). Some name) (sym (label_gives t a.0 a.1)), g.is))
 
-plain_kept : (known : Declarations) (before : List LineText) (code more : List Instr) (o : OperationText) → AllZip IsInstructionOf before code → instruct_plain known code o ≡ Ok more → AllZip IsInstructionOf (before ++ Plain o ∷ []) more
+plain_kept : (dialect : Dialect) → (known : Declarations) (before : List LineText) (code more : List Instr) (o : OperationText) → AllZip (IsInstructionOf dialect) before code → instruct_plain dialect known code o ≡ Ok more → AllZip (IsInstructionOf dialect) (before ++ Plain o ∷ []) more
 unfolding instruct_plain
-plain_kept known before code more o all e =
-    let b = bind_ok (room code o.operator.left) (λ here. instruction_of known None (Some o) >>= λ line. Ok (code ++ line ∷ [])) more e in
-    let c = bind_ok (instruction_of known None (Some o)) (λ line. Ok (code ++ line ∷ [])) more b.2 in
-    let g = instruction_gives known None (Some o) c.0 c.1 in
-    subst (λ (xs : List Instr). AllZip IsInstructionOf (before ++ Plain o ∷ []) xs) (ok_is (code ++ c.0 ∷ []) more c.2) (zip_push IsInstructionOf before code (Plain o) c.0 all (g.label, g.is))
+plain_kept dialect known before code more o all e =
+    let b = bind_ok (room code o.operator.left) (λ here. instruction_of dialect known None (Some o) >>= λ line. Ok (code ++ line ∷ [])) more e in
+    let c = bind_ok (instruction_of dialect known None (Some o)) (λ line. Ok (code ++ line ∷ [])) more b.2 in
+    let g = instruction_gives dialect known None (Some o) c.0 c.1 in
+    subst (λ (xs : List Instr). AllZip (IsInstructionOf dialect) (before ++ Plain o ∷ []) xs) (ok_is (code ++ c.0 ∷ []) more c.2) (zip_push (IsInstructionOf dialect) before code (Plain o) c.0 all (g.label, g.is))
 
-line_kept : (known : Declarations) (before : List LineText) (l : LineText) (code more : List Instr) → AllZip IsInstructionOf before code → instruct known code l ≡ Ok more → AllZip IsInstructionOf (before ++ l ∷ []) more
-line_kept known before (Labelled t o) code more all e = labelled_kept known before code more t o all e
-line_kept known before (Plain o) code more all e = plain_kept known before code more o all e
+line_kept : (dialect : Dialect) → (known : Declarations) (before : List LineText) (l : LineText) (code more : List Instr) → AllZip (IsInstructionOf dialect) before code → instruct dialect known code l ≡ Ok more → AllZip (IsInstructionOf dialect) (before ++ l ∷ []) more
+line_kept dialect known before (Labelled t o) code more all e = labelled_kept dialect known before code more t o all e
+line_kept dialect known before (Plain o) code more all e = plain_kept dialect known before code more o all e
 
-lines_agree : (names : List DeclaredName) (ls : List LineText) → Agrees (each (instruct (made names)) [] ls) (beside (line_faults names) [] ls)
-lines_agree names ls = each_agrees (λ before code. AllZip IsInstructionOf before code) (instruct (made names)) (line_faults names) (line_agrees names) (line_kept (made names)) [] ls [] tt
+lines_agree : (dialect : Dialect) → (names : List DeclaredName) (ls : List LineText) → Agrees (each (instruct dialect (made dialect names)) [] ls) (beside (line_faults dialect names) [] ls)
+lines_agree dialect names ls = each_agrees (λ before code. AllZip (IsInstructionOf dialect) before code) (instruct dialect (made dialect names)) (line_faults dialect names) (line_agrees dialect names) (line_kept dialect (made dialect names)) [] ls [] tt
 
-lines_kept : (known : Declarations) (ls : List LineText) (code : List Instr) → each (instruct known) [] ls ≡ Ok code → AllZip IsInstructionOf ls code
-lines_kept known ls code e = each_kept (λ before found. AllZip IsInstructionOf before found) (instruct known) (line_kept known) [] ls [] code tt e
+lines_kept : (dialect : Dialect) → (known : Declarations) (ls : List LineText) (code : List Instr) → each (instruct dialect known) [] ls ≡ Ok code → AllZip (IsInstructionOf dialect) ls code
+lines_kept dialect known ls code e = each_kept (λ before found. AllZip (IsInstructionOf dialect) before found) (instruct dialect known) (line_kept dialect known) [] ls [] code tt e
 
 -- ---- a text
 
@@ -234,23 +235,23 @@ abbrev made_of : Declarations → List Instr → Program
 made_of known code = record { variables = known.variables; instances = known.instances; code = code }
 
 -- the walk ends at the first fault, and not where there is none
-pub program_agrees : (p : ProgramText) → Agrees (program_at p) (faults_of p)
+pub program_agrees : (dialect : Dialect) → (p : ProgramText) → Agrees (program_at dialect p) (faults_of dialect p)
 unfolding program_at
-program_agrees p =
-    then_agrees (each declare_block nothing p.blocks) (λ known. each (instruct known) [] p.lines >>= λ code. Ok (made_of known code)) _ _ (blocks_agree p)
-    (λ known e. made_agrees (each (instruct known) [] p.lines) (made_of known) (beside (line_faults (names_of p)) [] p.lines)
-    (subst (λ (y : Declarations). Agrees (each (instruct y) [] p.lines) (beside (line_faults (names_of p)) [] p.lines)) (sym (blocks_kept p known e).keeps) (lines_agree (names_of p) p.lines)))
+program_agrees dialect p =
+    then_agrees (each (declare_block dialect) nothing p.blocks) (λ known. each (instruct dialect known) [] p.lines >>= λ code. Ok (made_of known code)) _ _ (blocks_agree dialect p)
+    (λ known e. made_agrees (each (instruct dialect known) [] p.lines) (made_of known) (beside (line_faults dialect (names_of p)) [] p.lines)
+    (subst (λ (y : Declarations). Agrees (each (instruct dialect y) [] p.lines) (beside (line_faults dialect (names_of p)) [] p.lines)) (sym (blocks_kept dialect p known e).keeps) (lines_agree dialect (names_of p) p.lines)))
 
 -- what the walk finds is the program of the text
-pub program_kept : (p : ProgramText) (P : Program) → program_at p ≡ Ok P → IsProgramOf p P
+pub program_kept : (dialect : Dialect) → (p : ProgramText) (P : Program) → program_at dialect p ≡ Ok P → IsProgramOf dialect p P
 unfolding program_at
-program_kept p P e =
-    let a = bind_ok (each declare_block nothing p.blocks) (λ known. each (instruct known) [] p.lines >>= λ code. Ok (made_of known code)) P e in
-    let b = bind_ok (each (instruct a.0) [] p.lines) (λ code. Ok (made_of a.0 code)) P a.2 in
-    let kept = blocks_kept p a.0 a.1 in
-    subst (IsProgramOf p) (ok_is (made_of a.0 b.0) P b.2)
+program_kept dialect p P e =
+    let a = bind_ok (each (declare_block dialect) nothing p.blocks) (λ known. each (instruct dialect known) [] p.lines >>= λ code. Ok (made_of known code)) P e in
+    let b = bind_ok (each (instruct dialect a.0) [] p.lines) (λ code. Ok (made_of a.0 code)) P a.2 in
+    let kept = blocks_kept dialect p a.0 a.1 in
+    subst (IsProgramOf dialect p) (ok_is (made_of a.0 b.0) P b.2)
     (record {
       variables = ap (λ (known : Declarations). known.variables) kept.keeps ∙ kept.starts;
       instances = ap (λ (known : Declarations). known.instances) kept.keeps;
-      code = lines_kept a.0 p.lines b.0 b.1;
+      code = lines_kept dialect a.0 p.lines b.0 b.1;
     })

@@ -5,6 +5,7 @@ use Rattle.std.specs.List.{filter, filter_map, list_any, position, cons_option}
 use Rattle.std.specs.Option.{option_map}
 use Rattle.std.proofs.lemmas.List.{append-nil}
 use Rattle.std.proofs.lemmas.List.Elements.{filter_map-append}
+use Rattle.il_model.specs.declared.dialect.Dialect.{Dialect}
 use Rattle.il_model.specs.declared.value.Ty.{Ty}
 use Rattle.il_model.specs.declared.value.Ty.TheVariants as types
 use Rattle.il_model.specs.declared.value.Value.{Value}
@@ -25,22 +26,22 @@ use Rattle.il_declarations.specs.Declaring.{DeclaredName, type_in, is_kind, is_i
 use Rattle.il_declarations.specs.TextFaults.{has_no_room}
 
 -- Whatever stands for the first value of an instance, of an unknown type or of a bad literal, is never used.
-abbrev pub planned_start : Option Loc → Option Token → Option DeclaredType → Value
-planned_start loc initial None = values.Bool false
-planned_start loc initial (Some (Elementary type)) = unwrap_or (start_of type loc initial) (values.Bool false)
-planned_start loc initial (Some (Block kind)) = values.Bool false
+abbrev pub planned_start : (dialect : Dialect) → Option Loc → Option Token → Option DeclaredType → Value
+planned_start dialect loc initial None = values.Bool false
+planned_start dialect loc initial (Some (Elementary type)) = unwrap_or (start_of dialect type loc initial) (values.Bool false)
+planned_start dialect loc initial (Some (Block kind)) = values.Bool false
 
-abbrev pub planned_by : List ℕ → Option Loc → Option Token → Option DeclaredType → Option Variable
-planned_by name loc initial None = Some (variable name types.Bool loc (planned_start loc initial None))
-planned_by name loc initial (Some (Elementary type)) = Some (variable name type loc (planned_start loc initial (Some (Elementary type))))
-planned_by name loc initial (Some (Block kind)) = None
+abbrev pub planned_by : (dialect : Dialect) → List ℕ → Option Loc → Option Token → Option DeclaredType → Option Variable
+planned_by dialect name loc initial None = Some (variable name types.Bool loc (planned_start dialect loc initial None))
+planned_by dialect name loc initial (Some (Elementary type)) = Some (variable name type loc (planned_start dialect loc initial (Some (Elementary type))))
+planned_by dialect name loc initial (Some (Block kind)) = None
 
-abbrev pub planned : DeclaredName → Option Variable
-planned x = planned_by (capitals x.name.text) (location_in x.by.names) x.by.initial (type_in x.by)
+abbrev pub planned : (dialect : Dialect) → DeclaredName → Option Variable
+planned dialect x = planned_by dialect (capitals x.name.text) (location_in x.by.names) x.by.initial (type_in dialect x.by)
 
 -- what the walk keeps
-abbrev pub made : List DeclaredName → Declarations
-made names = record { variables = filter_map planned names; instances = filter_map instance_of names }
+abbrev pub made : (dialect : Dialect) → List DeclaredName → Declarations
+made dialect names = record { variables = filter_map (planned dialect) names; instances = filter_map (instance_of dialect) names }
 
 -- ---- looking up
 
@@ -68,35 +69,35 @@ any_kept h p q same (x ∷ xs) = found (h x) ∙ (ap (λ (b : Bool). b || list_a
     found None = refl
     found (Some y) = refl
 
-variable_called : (name n : List ℕ) (loc : Option Loc) (initial : Option Token) (o : Option DeclaredType) → passes (λ (v : Variable). same_name v.name n) (planned_by name loc initial o) ≡ (not (is_kind o) && same_name name n)
-variable_called name n loc initial None = refl
-variable_called name n loc initial (Some (Elementary type)) = refl
-variable_called name n loc initial (Some (Block kind)) = refl
+variable_called : (dialect : Dialect) → (name n : List ℕ) (loc : Option Loc) (initial : Option Token) (o : Option DeclaredType) → passes (λ (v : Variable). same_name v.name n) (planned_by dialect name loc initial o) ≡ (not (is_kind o) && same_name name n)
+variable_called dialect name n loc initial None = refl
+variable_called dialect name n loc initial (Some (Elementary type)) = refl
+variable_called dialect name n loc initial (Some (Block kind)) = refl
 
 instance_called : (name n : List ℕ) (o : Option DeclaredType) → passes (λ (x : Instance). same_name x.name n) (instance_by name o) ≡ (is_kind o && same_name name n)
 instance_called name n None = refl
 instance_called name n (Some (Elementary type)) = refl
 instance_called name n (Some (Block kind)) = refl
 
-variable_placed : (name : List ℕ) (n : ℕ) (loc : Option Loc) (initial : Option Token) (o : Option DeclaredType) → passes (λ (v : Variable). has_code n v.location) (planned_by name loc initial o) ≡ (not (is_kind o) && has_code n loc)
-variable_placed name n loc initial None = refl
-variable_placed name n loc initial (Some (Elementary type)) = refl
-variable_placed name n loc initial (Some (Block kind)) = refl
+variable_placed : (dialect : Dialect) → (name : List ℕ) (n : ℕ) (loc : Option Loc) (initial : Option Token) (o : Option DeclaredType) → passes (λ (v : Variable). has_code n v.location) (planned_by dialect name loc initial o) ≡ (not (is_kind o) && has_code n loc)
+variable_placed dialect name n loc initial None = refl
+variable_placed dialect name n loc initial (Some (Elementary type)) = refl
+variable_placed dialect name n loc initial (Some (Block kind)) = refl
 
-pub name_known : (names : List DeclaredName) (n : List ℕ) → has_name (made names) n ≡ names_variable names n
-name_known names n =
-    any_position (λ (v : Variable). same_name v.name n) (filter_map planned names)
-    ∙ any_kept planned (λ (v : Variable). same_name v.name n) (λ x. is_variable x && is_called n x) (λ x. variable_called (capitals x.name.text) n (location_in x.by.names) x.by.initial (type_in x.by)) names
+pub name_known : (dialect : Dialect) → (names : List DeclaredName) (n : List ℕ) → has_name (made dialect names) n ≡ names_variable dialect names n
+name_known dialect names n =
+    any_position (λ (v : Variable). same_name v.name n) (filter_map (planned dialect) names)
+    ∙ any_kept (planned dialect) (λ (v : Variable). same_name v.name n) (λ x. is_variable dialect x && is_called n x) (λ x. variable_called dialect (capitals x.name.text) n (location_in x.by.names) x.by.initial (type_in dialect x.by)) names
 
-pub instance_known : (names : List DeclaredName) (n : List ℕ) → has_instance (made names) n ≡ names_instance names n
-instance_known names n =
-    any_position (λ (x : Instance). same_name x.name n) (filter_map instance_of names)
-    ∙ any_kept instance_of (λ (x : Instance). same_name x.name n) (λ x. is_instance x && is_called n x) (λ x. instance_called (capitals x.name.text) n (type_in x.by)) names
+pub instance_known : (dialect : Dialect) → (names : List DeclaredName) (n : List ℕ) → has_instance (made dialect names) n ≡ names_instance dialect names n
+instance_known dialect names n =
+    any_position (λ (x : Instance). same_name x.name n) (filter_map (instance_of dialect) names)
+    ∙ any_kept (instance_of dialect) (λ (x : Instance). same_name x.name n) (λ x. is_instance dialect x && is_called n x) (λ x. instance_called (capitals x.name.text) n (type_in dialect x.by)) names
 
-pub place_known : (names : List DeclaredName) (n : ℕ) → is_taken (made names).variables n ≡ is_occupied names n
-place_known names n =
-    any_position (λ (v : Variable). has_code n v.location) (filter_map planned names)
-    ∙ any_kept planned (λ (v : Variable). has_code n v.location) (λ x. is_variable x && has_code n (location_in x.by.names)) (λ x. variable_placed (capitals x.name.text) n (location_in x.by.names) x.by.initial (type_in x.by)) names
+pub place_known : (dialect : Dialect) → (names : List DeclaredName) (n : ℕ) → is_taken (made dialect names).variables n ≡ is_occupied dialect names n
+place_known dialect names n =
+    any_position (λ (v : Variable). has_code n v.location) (filter_map (planned dialect) names)
+    ∙ any_kept (planned dialect) (λ (v : Variable). has_code n v.location) (λ x. is_variable dialect x && has_code n (location_in x.by.names)) (λ x. variable_placed dialect (capitals x.name.text) n (location_in x.by.names) x.by.initial (type_in dialect x.by)) names
 
 both : (i c a b d : Bool) → (a || b) ≡ d → (((not i && c) || a) || ((i && c) || b)) ≡ (c || d)
 both true true true b d e = refl
@@ -105,69 +106,69 @@ both true false a b d e = e
 both false true a b d e = refl
 both false false a b d e = e
 
-pub declared_known : (names : List DeclaredName) (n : List ℕ) → (has_name (made names) n || has_instance (made names) n) ≡ is_declared names n
-declared_known names n = rw (name_known names n, instance_known names n) (together names)
+pub declared_known : (dialect : Dialect) → (names : List DeclaredName) (n : List ℕ) → (has_name (made dialect names) n || has_instance (made dialect names) n) ≡ is_declared names n
+declared_known dialect names n = rw (name_known dialect names n, instance_known dialect names n) (together names)
   where
-    together : (xs : List DeclaredName) → (names_variable xs n || names_instance xs n) ≡ is_declared xs n
+    together : (xs : List DeclaredName) → (names_variable dialect xs n || names_instance dialect xs n) ≡ is_declared xs n
     together [] = refl
-    together (x ∷ xs) = both (is_instance x) (is_called n x) (names_variable xs n) (names_instance xs n) (is_declared xs n) (together xs)
+    together (x ∷ xs) = both (is_instance dialect x) (is_called n x) (names_variable dialect xs n) (names_instance dialect xs n) (is_declared xs n) (together xs)
 
 -- ---- counting
 
-variables_counted : (names : List DeclaredName) → length (filter_map planned names) ≡ length (filter is_variable names)
-variables_counted [] = refl
-variables_counted (x ∷ xs) = step (type_in x.by) (variables_counted xs)
+variables_counted : (dialect : Dialect) → (names : List DeclaredName) → length (filter_map (planned dialect) names) ≡ length (filter (is_variable dialect) names)
+variables_counted dialect [] = refl
+variables_counted dialect (x ∷ xs) = step (type_in dialect x.by) (variables_counted dialect xs)
   where
-    step : (o : Option DeclaredType) → length (filter_map planned xs) ≡ length (filter is_variable xs) → length (cons_option (planned_by (capitals x.name.text) (location_in x.by.names) x.by.initial o) (filter_map planned xs)) ≡ length (cond (not (is_kind o)) (x ∷ filter is_variable xs) (filter is_variable xs))
+    step : (o : Option DeclaredType) → length (filter_map (planned dialect) xs) ≡ length (filter (is_variable dialect) xs) → length (cons_option (planned_by dialect (capitals x.name.text) (location_in x.by.names) x.by.initial o) (filter_map (planned dialect) xs)) ≡ length (cond (not (is_kind o)) (x ∷ filter (is_variable dialect) xs) (filter (is_variable dialect) xs))
     step None more = ap suc more
     step (Some (Elementary type)) more = ap suc more
     step (Some (Block kind)) more = more
 
-instances_counted : (names : List DeclaredName) → length (filter_map instance_of names) ≡ length (filter is_instance names)
-instances_counted [] = refl
-instances_counted (x ∷ xs) = step (type_in x.by) (instances_counted xs)
+instances_counted : (dialect : Dialect) → (names : List DeclaredName) → length (filter_map (instance_of dialect) names) ≡ length (filter (is_instance dialect) names)
+instances_counted dialect [] = refl
+instances_counted dialect (x ∷ xs) = step (type_in dialect x.by) (instances_counted dialect xs)
   where
-    step : (o : Option DeclaredType) → length (filter_map instance_of xs) ≡ length (filter is_instance xs) → length (cons_option (instance_by (capitals x.name.text) o) (filter_map instance_of xs)) ≡ length (cond (is_kind o) (x ∷ filter is_instance xs) (filter is_instance xs))
+    step : (o : Option DeclaredType) → length (filter_map (instance_of dialect) xs) ≡ length (filter (is_instance dialect) xs) → length (cons_option (instance_by (capitals x.name.text) o) (filter_map (instance_of dialect) xs)) ≡ length (cond (is_kind o) (x ∷ filter (is_instance dialect) xs) (filter (is_instance dialect) xs))
     step None more = more
     step (Some (Elementary type)) more = more
     step (Some (Block kind)) more = ap suc more
 
-pub room_known : (names : List DeclaredName) (o : Option DeclaredType) → is_full o (made names) ≡ has_no_room o names
-room_known names None = refl
-room_known names (Some (Elementary type)) = ap (leb 512) (variables_counted names)
-room_known names (Some (Block kind)) = ap (leb 128) (instances_counted names)
+pub room_known : (dialect : Dialect) → (names : List DeclaredName) (o : Option DeclaredType) → is_full o (made dialect names) ≡ has_no_room dialect o names
+room_known dialect names None = refl
+room_known dialect names (Some (Elementary type)) = ap (leb 512) (variables_counted dialect names)
+room_known dialect names (Some (Block kind)) = ap (leb 128) (instances_counted dialect names)
 
 -- ---- one name more
 
-pub planned_same : (o : Option DeclaredType) (initial : Option Token) → planned_value o initial ≡ planned_start None initial o
-planned_same None None = refl
-planned_same None (Some t) = refl
-planned_same (Some (Elementary type)) None = refl
-planned_same (Some (Elementary type)) (Some t) = refl
-planned_same (Some (Block kind)) None = refl
-planned_same (Some (Block kind)) (Some t) = refl
+pub planned_same : (dialect : Dialect) → (o : Option DeclaredType) (initial : Option Token) → planned_value dialect o initial ≡ planned_start dialect None initial o
+planned_same dialect None None = refl
+planned_same dialect None (Some t) = refl
+planned_same dialect (Some (Elementary type)) None = refl
+planned_same dialect (Some (Elementary type)) (Some t) = refl
+planned_same dialect (Some (Block kind)) None = refl
+planned_same dialect (Some (Block kind)) (Some t) = refl
 
-pub one_more : (names : List DeclaredName) (x : DeclaredName) (o ty : Option DeclaredType) (loc : Option Loc) (v : Value) → type_in x.by ≡ o → location_in x.by.names ≡ loc → v ≡ planned_start loc x.by.initial o
-    → with_declared (record { ty = ty; initial = v }) (made names) (capitals x.name.text) loc o ≡ made (names ++ x ∷ [])
-one_more names x o ty loc v type place start =
+pub one_more : (dialect : Dialect) → (names : List DeclaredName) (x : DeclaredName) (o ty : Option DeclaredType) (loc : Option Loc) (v : Value) → type_in dialect x.by ≡ o → location_in x.by.names ≡ loc → v ≡ planned_start dialect loc x.by.initial o
+    → with_declared (record { ty = ty; initial = v }) (made dialect names) (capitals x.name.text) loc o ≡ made dialect (names ++ x ∷ [])
+one_more dialect names x o ty loc v type place start =
     by_type o start
-    ∙ sym (ap (λ (q : Option DeclaredType). grown (planned_by (capitals x.name.text) (location_in x.by.names) x.by.initial q) (instance_by (capitals x.name.text) q)) type
-    ∙ ap (λ (l : Option Loc). grown (planned_by (capitals x.name.text) l x.by.initial o) (instance_by (capitals x.name.text) o)) place)
-    ∙ sym (rw (filter_map-append planned names (x ∷ []), filter_map-append instance_of names (x ∷ [])) refl)
+    ∙ sym (ap (λ (q : Option DeclaredType). grown (planned_by dialect (capitals x.name.text) (location_in x.by.names) x.by.initial q) (instance_by (capitals x.name.text) q)) type
+    ∙ ap (λ (l : Option Loc). grown (planned_by dialect (capitals x.name.text) l x.by.initial o) (instance_by (capitals x.name.text) o)) place)
+    ∙ sym (rw (filter_map-append (planned dialect) names (x ∷ []), filter_map-append (instance_of dialect) names (x ∷ [])) refl)
   where
     grown : Option Variable → Option Instance → Declarations
-    grown a b = record { variables = filter_map planned names ++ cons_option a []; instances = filter_map instance_of names ++ cons_option b [] }
+    grown a b = record { variables = filter_map (planned dialect) names ++ cons_option a []; instances = filter_map (instance_of dialect) names ++ cons_option b [] }
 
-    by_type : (q : Option DeclaredType) → v ≡ planned_start loc x.by.initial q → with_declared (record { ty = ty; initial = v }) (made names) (capitals x.name.text) loc q ≡ grown (planned_by (capitals x.name.text) loc x.by.initial q) (instance_by (capitals x.name.text) q)
-    by_type None e = rw (e, append-nil (filter_map instance_of names)) refl
-    by_type (Some (Elementary type)) e = rw (e, append-nil (filter_map instance_of names)) refl
-    by_type (Some (Block kind)) e = rw (append-nil (filter_map planned names)) refl
+    by_type : (q : Option DeclaredType) → v ≡ planned_start dialect loc x.by.initial q → with_declared (record { ty = ty; initial = v }) (made dialect names) (capitals x.name.text) loc q ≡ grown (planned_by dialect (capitals x.name.text) loc x.by.initial q) (instance_by (capitals x.name.text) q)
+    by_type None e = rw (e, append-nil (filter_map (instance_of dialect) names)) refl
+    by_type (Some (Elementary type)) e = rw (e, append-nil (filter_map (instance_of dialect) names)) refl
+    by_type (Some (Block kind)) e = rw (append-nil (filter_map (planned dialect) names)) refl
 
 -- ---- first values
 
-pub start_planned : (type : DeclaredType) (name : List ℕ) (loc : Option Loc) (initial : Option Token) → ((t : Ty) → type ≡ Elementary t → is_some (start_of t loc initial) ≡ true) → planned_by name loc initial (Some type) ≡ variable_by name loc initial (Some type)
-start_planned (Block kind) name loc initial good = refl
-start_planned (Elementary t) name loc initial good = by_start (start_of t loc initial) (good t refl)
+pub start_planned : (dialect : Dialect) → (type : DeclaredType) (name : List ℕ) (loc : Option Loc) (initial : Option Token) → ((t : Ty) → type ≡ Elementary t → is_some (start_of dialect t loc initial) ≡ true) → planned_by dialect name loc initial (Some type) ≡ variable_by dialect name loc initial (Some type)
+start_planned dialect (Block kind) name loc initial good = refl
+start_planned dialect (Elementary t) name loc initial good = by_start (start_of dialect t loc initial) (good t refl)
   where
     by_start : (o : Option Value) → is_some o ≡ true → Some (variable name t loc (unwrap_or o (values.Bool false))) ≡ option_map (variable name t loc) o
     by_start None e = absurd cc

@@ -3,11 +3,12 @@ use Rattle.std.proofs.Common.{◌≡◌, inl, inr, ℕ, suc, ◌<◌, ◌≤◌,
 use Rattle.std.specs.Prelude.{is_none, nat_le}
 use Rattle.std.specs.List.{flat_map, AllByRecursion}
 use Rattle.std.proofs.lemmas.List.{append-nil}
+use Rattle.il_model.specs.declared.dialect.Dialect.{Dialect}
+use Rattle.il_model.specs.Dialects.{literal_in}
 use Rattle.il_model.specs.declared.program.Loc.{Loc}
 use Rattle.il_model.specs.declared.program.Side.{Side}
 use Rattle.il_model.specs.declared.program.Side.TheVariants as sides
 use Rattle.il_model.specs.Words.{is_reserved}
-use Rattle.il_model.specs.Literals.{literal_of}
 use Rattle.il_model.specs.CodedOperands.{loc_code}
 use Rattle.il_model.specs.Locations.{location_of}
 use Rattle.il_reader.specs.Tokens.{Token}
@@ -90,19 +91,19 @@ here : (P : FaultAt → Type 0) (a : Bool) (kind : DeclKind) (left : ℕ) → P 
 here P true kind left p = (p, tt)
 here P false kind left p = tt
 
-name_ordered : (n : ℕ) (before : List DeclaredName) (x : DeclaredName) → x.name.left < n → Ordered n (name_faults before x) x.name.left
-name_ordered n before x lt =
+name_ordered : (dialect : Dialect) → (n : ℕ) (before : List DeclaredName) (x : DeclaredName) → x.name.left < n → Ordered n (name_faults dialect before x) x.name.left
+name_ordered dialect n before x lt =
     let left = x.name.left in
-    let many = has_no_room (type_in x.by) before in
+    let many = has_no_room dialect (type_in dialect x.by) before in
     let reserved = is_reserved (capitals x.name.text) in
     more_faults n left (is_declared before (capitals x.name.text)) kinds.Duplicate (when reserved kinds.ReservedName left ++ when many kinds.TooMany left) lt
     (more_faults n left reserved kinds.ReservedName (when many kinds.TooMany left) lt (one_fault n left many kinds.TooMany lt) (here _ many kinds.TooMany left (refl, omega arith)))
     (all_both _ (when reserved kinds.ReservedName left) (when many kinds.TooMany left) (here _ reserved kinds.ReservedName left (refl, omega arith)) (here _ many kinds.TooMany left (refl, omega arith)))
 
-place_ordered : (n : ℕ) (before : List DeclaredName) (type : Option DeclaredType) (t : Token) (o : Option Loc) → t.left < n → Ordered n (place_faults before type t o) t.left
-place_ordered n before type t None lt = one_fault n t.left true kinds.BadLocation lt
-place_ordered n before type t (Some loc) lt =
-    let taken = is_occupied before (loc_code loc) in
+place_ordered : (dialect : Dialect) → (n : ℕ) (before : List DeclaredName) (type : Option DeclaredType) (t : Token) (o : Option Loc) → t.left < n → Ordered n (place_faults dialect before type t o) t.left
+place_ordered dialect n before type t None lt = one_fault n t.left true kinds.BadLocation lt
+place_ordered dialect n before type t (Some loc) lt =
+    let taken = is_occupied dialect before (loc_code loc) in
     more_faults n t.left (not (suits type loc)) kinds.BadLocation (when taken kinds.Overlap t.left) lt (one_fault n t.left taken kinds.Overlap lt) (here _ taken kinds.Overlap t.left (refl, omega arith))
 
 -- ---- lists
@@ -126,72 +127,72 @@ items_ordered s fs each before xs n m falls = subst (λ (ys : List _). Ordered n
 
 -- ---- declarations
 
-other_ordered : (d : DeclarationText) (before : List DeclaredName) (t : Token) (n m : ℕ) → Falls n (spelled_name t) m → Ordered n (name_faults before (named_in d t)) m
-other_ordered d before t n m falls = wider n t.left m _ (name_ordered n before (named_in d t) falls.0) falls.1
+other_ordered : (dialect : Dialect) → (d : DeclarationText) (before : List DeclaredName) (t : Token) (n m : ℕ) → Falls n (spelled_name t) m → Ordered n (name_faults dialect before (named_in d t)) m
+other_ordered dialect d before t n m falls = wider n t.left m _ (name_ordered dialect n before (named_in d t) falls.0) falls.1
 
-abbrev names_and_place : DeclarationText → List DeclaredName → NamesText → List FaultAt
-names_and_place d before x = beside name_faults before (map (named_in d) (d.name ∷ other_names x)) ++ location_faults before (type_in d) x
+abbrev names_and_place : (dialect : Dialect) → DeclarationText → List DeclaredName → NamesText → List FaultAt
+names_and_place dialect d before x = beside (name_faults dialect) before (map (named_in d) (d.name ∷ other_names x)) ++ location_faults dialect before (type_in dialect d) x
 
-names_ordered : (d : DeclarationText) (before : List DeclaredName) (x : NamesText) (n m : ℕ) → d.name.left < n → Falls d.name.left (spelled_names x) m → Ordered n (names_and_place d before x) m
+names_ordered : (dialect : Dialect) → (d : DeclarationText) (before : List DeclaredName) (x : NamesText) (n m : ℕ) → d.name.left < n → Falls d.name.left (spelled_names x) m → Ordered n (names_and_place dialect d before x) m
 unfolding beside
-names_ordered d before (Located at) n m lt falls =
+names_ordered dialect d before (Located at) n m lt falls =
     both n d.name.left m _ _
-    (subst (λ (fs : List FaultAt). Ordered n fs d.name.left) (sym (append-nil (name_faults before (named_in d d.name)))) (name_ordered n before (named_in d d.name) lt))
-    (wider d.name.left at.left m _ (place_ordered d.name.left before (type_in d) at (location_of at.text) falls.0) falls.1)
-names_ordered d before (More ts) n m lt falls =
+    (subst (λ (fs : List FaultAt). Ordered n fs d.name.left) (sym (append-nil (name_faults dialect before (named_in d d.name)))) (name_ordered dialect n before (named_in d d.name) lt))
+    (wider d.name.left at.left m _ (place_ordered dialect d.name.left before (type_in dialect d) at (location_of at.text) falls.0) falls.1)
+names_ordered dialect d before (More ts) n m lt falls =
     let h = split d.name.left (flat_map spelled_name ts) (ahead ends_names ∷ []) m falls in
-    subst (λ (fs : List FaultAt). Ordered n fs m) (sym (append-nil (beside name_faults before (map (named_in d) (d.name ∷ ts)))))
+    subst (λ (fs : List FaultAt). Ordered n fs m) (sym (append-nil (beside (name_faults dialect) before (map (named_in d) (d.name ∷ ts)))))
     (wider n h.0 m _
-    (both n d.name.left h.0 _ _ (name_ordered n before (named_in d d.name) lt) (beside_ordered spelled_name (named_in d) name_faults (other_ordered d) (before ++ named_in d d.name ∷ []) ts d.name.left h.0 h.1))
+    (both n d.name.left h.0 _ _ (name_ordered dialect n before (named_in d d.name) lt) (beside_ordered spelled_name (named_in d) (name_faults dialect) (other_ordered dialect d) (before ++ named_in d d.name ∷ []) ts d.name.left h.0 h.1))
     h.2)
 
-start_ordered : (n m : ℕ) (loc : Option Loc) (o : Option Token) (type : Option DeclaredType) → Falls n (spelled_initial o) m → Ordered n (start_faults loc o type) m
-start_ordered n m loc None type falls = none n m falls
-start_ordered n m loc (Some t) None falls = none n m (at_most n (spelled_initial (Some t)) m falls)
-start_ordered n m loc (Some t) (Some (Elementary type)) falls = wider n t.left m _ (one_fault n t.left (is_none (written_value type loc t)) kinds.BadInitial falls.0) falls.1
-start_ordered n m loc (Some t) (Some (Block kind)) falls = wider n t.left m _ (one_fault n t.left true kinds.BadInitial falls.0) falls.1
+start_ordered : (dialect : Dialect) → (n m : ℕ) (loc : Option Loc) (o : Option Token) (type : Option DeclaredType) → Falls n (spelled_initial o) m → Ordered n (start_faults dialect loc o type) m
+start_ordered dialect n m loc None type falls = none n m falls
+start_ordered dialect n m loc (Some t) None falls = none n m (at_most n (spelled_initial (Some t)) m falls)
+start_ordered dialect n m loc (Some t) (Some (Elementary type)) falls = wider n t.left m _ (one_fault n t.left (is_none (written_value dialect type loc t)) kinds.BadInitial falls.0) falls.1
+start_ordered dialect n m loc (Some t) (Some (Block kind)) falls = wider n t.left m _ (one_fault n t.left true kinds.BadInitial falls.0) falls.1
 
-declaration_ordered : (before : List DeclarationText) (d : DeclarationText) (n m : ℕ) → Falls n (going ends_block spelled_declaration d) m → Ordered n (declaration_faults (flat_map names_in before) d) m
-declaration_ordered before d n m falls =
+declaration_ordered : (dialect : Dialect) → (before : List DeclarationText) (d : DeclarationText) (n m : ℕ) → Falls n (going ends_block spelled_declaration d) m → Ordered n (declaration_faults dialect (flat_map names_in before) d) m
+declaration_ordered dialect before d n m falls =
     let seen = flat_map names_in before in
     let h = split d.name.left (spelled_names d.names) _ m falls.1 in
     let k = split d.ty.left (spelled_initial d.initial) _ m h.2.1 in
-    subst (λ (fs : List FaultAt). Ordered n fs m) (append_assoc (beside name_faults seen (names_in d)) (location_faults seen (type_in d) d.names) _)
-    (both n h.0 m _ _ (names_ordered d seen d.names n h.0 falls.0 h.1)
-    (both h.0 d.ty.left m _ _ (one_fault h.0 d.ty.left (is_none (type_in d)) kinds.UnknownType h.2.0)
-    (wider d.ty.left k.0 m _ (start_ordered d.ty.left k.0 (location_in d.names) d.initial (type_in d) k.1) k.2)))
+    subst (λ (fs : List FaultAt). Ordered n fs m) (append_assoc (beside (name_faults dialect) seen (names_in d)) (location_faults dialect seen (type_in dialect d) d.names) _)
+    (both n h.0 m _ _ (names_ordered dialect d seen d.names n h.0 falls.0 h.1)
+    (both h.0 d.ty.left m _ _ (one_fault h.0 d.ty.left (is_none (type_in dialect d)) kinds.UnknownType h.2.0)
+    (wider d.ty.left k.0 m _ (start_ordered dialect d.ty.left k.0 (location_in d.names) d.initial (type_in dialect d) k.1) k.2)))
 
-abbrev of_declaration : List DeclarationText → DeclarationText → List FaultAt
-of_declaration before d = declaration_faults (flat_map names_in before) d
+abbrev of_declaration : (dialect : Dialect) → List DeclarationText → DeclarationText → List FaultAt
+of_declaration dialect before d = declaration_faults dialect (flat_map names_in before) d
 
-blocks_ordered : (before : List DeclarationText) (bs : List (List DeclarationText)) (n m : ℕ) → Falls n (flat_map (going ends_blocks spelled_block) bs) m → Ordered n (beside of_declaration before (flat_map (λ ds. ds) bs)) m
+blocks_ordered : (dialect : Dialect) → (before : List DeclarationText) (bs : List (List DeclarationText)) (n m : ℕ) → Falls n (flat_map (going (ends_blocks dialect) (spelled_block dialect)) bs) m → Ordered n (beside (of_declaration dialect) before (flat_map (λ ds. ds) bs)) m
 unfolding beside
-blocks_ordered before [] n m falls = none n m falls
-blocks_ordered before (ds ∷ bs) n m falls =
-    let h = split n (going ends_blocks spelled_block ds) (flat_map (going ends_blocks spelled_block) bs) m falls in
+blocks_ordered dialect before [] n m falls = none n m falls
+blocks_ordered dialect before (ds ∷ bs) n m falls =
+    let h = split n (going (ends_blocks dialect) (spelled_block dialect) ds) (flat_map (going (ends_blocks dialect) (spelled_block dialect)) bs) m falls in
     let k = split n (listed ends_block spelled_declaration ds) _ h.0 h.1 in
     let l = split n (flat_map (going ends_block spelled_declaration) ds) (ahead ends_block ∷ []) k.0 k.1 in
-    rw (beside_append of_declaration before ds (flat_map (λ ds. ds) bs))
+    rw (beside_append (of_declaration dialect) before ds (flat_map (λ ds. ds) bs))
     (both n h.0 m _ _
-    (wider n k.0 h.0 _ (wider n l.0 k.0 _ (items_ordered (going ends_block spelled_declaration) of_declaration declaration_ordered before ds n l.0 l.1) l.2) k.2)
-    (blocks_ordered (before ++ ds) bs h.0 m h.2))
+    (wider n k.0 h.0 _ (wider n l.0 k.0 _ (items_ordered (going ends_block spelled_declaration) (of_declaration dialect) (declaration_ordered dialect) before ds n l.0 l.1) l.2) k.2)
+    (blocks_ordered dialect (before ++ ds) bs h.0 m h.2))
 
 -- ---- instructions
 
-operand_ordered : (names : List DeclaredName) (x : OperandText) (n m : ℕ) → Falls n (spelled_operand x) m → Ordered n (operand_faults names x) m
-operand_ordered names (Constant t) n m falls = wider n t.left m _ (one_fault n t.left (is_none (literal_of t.text)) kinds.UnknownName falls.0) falls.1
-operand_ordered names (Direct t) n m falls = wider n t.left m _ (one_fault n t.left (is_none (location_of t.text)) kinds.BadLocation falls.0) falls.1
-operand_ordered names (Named t) n m falls = wider n t.left m _ (one_fault n t.left (not (names_variable names (capitals t.text))) kinds.UnknownName falls.0) falls.1
-operand_ordered names (Field t f) n m falls =
+operand_ordered : (dialect : Dialect) → (names : List DeclaredName) (x : OperandText) (n m : ℕ) → Falls n (spelled_operand x) m → Ordered n (operand_faults dialect names x) m
+operand_ordered dialect names (Constant t) n m falls = wider n t.left m _ (one_fault n t.left (is_none (literal_in dialect t.text)) kinds.UnknownName falls.0) falls.1
+operand_ordered dialect names (Direct t) n m falls = wider n t.left m _ (one_fault n t.left (is_none (location_of t.text)) kinds.BadLocation falls.0) falls.1
+operand_ordered dialect names (Named t) n m falls = wider n t.left m _ (one_fault n t.left (not (names_variable dialect names (capitals t.text))) kinds.UnknownName falls.0) falls.1
+operand_ordered dialect names (Field t f) n m falls =
     let below = falls.1.0 in
     let low = falls.1.1 in
-    wider n t.left m _ (one_fault n t.left (not (names_instance names (capitals t.text))) kinds.UnknownName falls.0) (omega arith)
+    wider n t.left m _ (one_fault n t.left (not (names_instance dialect names (capitals t.text))) kinds.UnknownName falls.0) (omega arith)
 
-inner_ordered : (names : List DeclaredName) (x : OperandText) (n m : ℕ) → Falls n (spelled_inner_operand x) m → Ordered n (operand_faults names x) m
-inner_ordered names (Constant t) n m falls = operand_ordered names (Constant t) n m falls
-inner_ordered names (Direct t) n m falls = operand_ordered names (Direct t) n m falls
-inner_ordered names (Named t) n m falls = operand_ordered names (Named t) n m falls
-inner_ordered names (Field t f) n m falls = operand_ordered names (Field t f) n m falls
+inner_ordered : (dialect : Dialect) → (names : List DeclaredName) (x : OperandText) (n m : ℕ) → Falls n (spelled_inner_operand x) m → Ordered n (operand_faults dialect names x) m
+inner_ordered dialect names (Constant t) n m falls = operand_ordered dialect names (Constant t) n m falls
+inner_ordered dialect names (Direct t) n m falls = operand_ordered dialect names (Direct t) n m falls
+inner_ordered dialect names (Named t) n m falls = operand_ordered dialect names (Named t) n m falls
+inner_ordered dialect names (Field t f) n m falls = operand_ordered dialect names (Field t f) n m falls
 
 -- what stands lower has room above
 higher : (n k m : ℕ) (fs : List FaultAt) → k ≤ n → Ordered k fs m → Ordered n fs m
@@ -199,12 +200,12 @@ higher n k m fs le a =
     let low = a.most in
     record { most = omega arith; inside = all_map (Between k m) (Between n m) (λ f h. let l = h.0 in let u = h.1 in (l, omega arith)) fs a.inside; order = a.order }
 
-argument_ordered : (names : List DeclaredName) (a : ArgumentText) (n m : ℕ) → Falls n (spelled_argument a) m → Ordered n (operand_faults names a.operand) m
-argument_ordered names a n m falls = higher n a.field.left m _ (let lt = falls.0 in omega arith) (by_side a.side falls.1)
+argument_ordered : (dialect : Dialect) → (names : List DeclaredName) (a : ArgumentText) (n m : ℕ) → Falls n (spelled_argument a) m → Ordered n (operand_faults dialect names a.operand) m
+argument_ordered dialect names a n m falls = higher n a.field.left m _ (let lt = falls.0 in omega arith) (by_side a.side falls.1)
   where
-    by_side : (side : Side) → Falls a.field.left (breaks ∷ (spelled_side side ++ breaks ∷ spelled_inner_operand a.operand)) m → Ordered a.field.left (operand_faults names a.operand) m
-    by_side sides.Input h = inner_ordered names a.operand a.field.left m h
-    by_side sides.Output h = inner_ordered names a.operand a.field.left m h
+    by_side : (side : Side) → Falls a.field.left (breaks ∷ (spelled_side side ++ breaks ∷ spelled_inner_operand a.operand)) m → Ordered a.field.left (operand_faults dialect names a.operand) m
+    by_side sides.Input h = inner_ordered dialect names a.operand a.field.left m h
+    by_side sides.Output h = inner_ordered dialect names a.operand a.field.left m h
 
 flat_ordered : {X : Type 0} (s : X → List Part) (fs : X → List FaultAt) → ((x : X) (n m : ℕ) → Falls n (s x) m → Ordered n (fs x) m) → (xs : List X) (n m : ℕ) → Falls n (flat_map s xs) m → Ordered n (flat_map fs xs) m
 flat_ordered s fs each [] n m falls = none n m falls
@@ -212,81 +213,81 @@ flat_ordered s fs each (x ∷ xs) n m falls =
     let h = split n (s x) (flat_map s xs) m falls in
     both n h.0 m (fs x) (flat_map fs xs) (each x n h.0 h.1) (flat_ordered s fs each xs h.0 m h.2)
 
-abbrev of_argument : List DeclaredName → ArgumentText → List FaultAt
-of_argument names a = operand_faults names a.operand
+abbrev of_argument : (dialect : Dialect) → List DeclaredName → ArgumentText → List FaultAt
+of_argument dialect names a = operand_faults dialect names a.operand
 
-inside_ordered : (names : List DeclaredName) (xs : List ArgumentText) (n m : ℕ) → Falls n (spelled_inside xs) m → Ordered n (flat_map (of_argument names) xs) m
-inside_ordered names [] n m falls = none n m falls
-inside_ordered names (a ∷ more) n m falls =
+inside_ordered : (dialect : Dialect) → (names : List DeclaredName) (xs : List ArgumentText) (n m : ℕ) → Falls n (spelled_inside xs) m → Ordered n (flat_map (of_argument dialect names) xs) m
+inside_ordered dialect names [] n m falls = none n m falls
+inside_ordered dialect names (a ∷ more) n m falls =
     let h = split n (spelled_argument a) _ m falls in
     let k = split h.0 (flat_map spelled_next more) (ahead ends_arguments ∷ []) m h.2 in
-    both n h.0 m _ _ (argument_ordered names a n h.0 h.1) (wider h.0 k.0 m _ (flat_ordered spelled_next (of_argument names) (λ x i j f. argument_ordered names x i j f) more h.0 k.0 k.1) k.2)
+    both n h.0 m _ _ (argument_ordered dialect names a n h.0 h.1) (wider h.0 k.0 m _ (flat_ordered spelled_next (of_argument dialect names) (λ x i j f. argument_ordered dialect names x i j f) more h.0 k.0 k.1) k.2)
 
-arguments_ordered : (names : List DeclaredName) (o : Option (List ArgumentText)) (n m : ℕ) → Falls n (spelled_arguments o) m → Ordered n (flat_map (of_argument names) (written_arguments o)) m
-arguments_ordered names None n m falls = none n m falls
-arguments_ordered names (Some xs) n m falls =
+arguments_ordered : (dialect : Dialect) → (names : List DeclaredName) (o : Option (List ArgumentText)) (n m : ℕ) → Falls n (spelled_arguments o) m → Ordered n (flat_map (of_argument dialect names) (written_arguments o)) m
+arguments_ordered dialect names None n m falls = none n m falls
+arguments_ordered dialect names (Some xs) n m falls =
     let h = split n (spelled_inside xs) _ m falls in
-    wider n h.0 m _ (inside_ordered names xs n h.0 h.1) h.2
+    wider n h.0 m _ (inside_ordered dialect names xs n h.0 h.1) h.2
 
-behind_ordered : (names : List DeclaredName) (b : BehindText) (n m : ℕ) → Falls n (spelled_behind b) m → Ordered n (behind_faults names b ++ flat_map (of_argument names) (arguments_behind b)) m
-behind_ordered names Nothing n m falls = none n m falls
-behind_ordered names (Given x) n m falls = subst (λ (fs : List FaultAt). Ordered n fs m) (sym (append-nil (operand_faults names x))) (operand_ordered names x n m falls)
-behind_ordered names (Target t) n m falls = none n m (at_most n (spelled_behind (Target t)) m falls)
-behind_ordered names (Opened None) n m falls = none n m falls
-behind_ordered names (Opened (Some x)) n m falls = subst (λ (fs : List FaultAt). Ordered n fs m) (sym (append-nil (operand_faults names x))) (operand_ordered names x n m falls)
-behind_ordered names (Called c) n m falls =
-    both n c.instance.left m _ _ (one_fault n c.instance.left (not (names_instance names (capitals c.instance.text))) kinds.UnknownName falls.0) (arguments_ordered names c.written c.instance.left m falls.1)
+behind_ordered : (dialect : Dialect) → (names : List DeclaredName) (b : BehindText) (n m : ℕ) → Falls n (spelled_behind b) m → Ordered n (behind_faults dialect names b ++ flat_map (of_argument dialect names) (arguments_behind b)) m
+behind_ordered dialect names Nothing n m falls = none n m falls
+behind_ordered dialect names (Given x) n m falls = subst (λ (fs : List FaultAt). Ordered n fs m) (sym (append-nil (operand_faults dialect names x))) (operand_ordered dialect names x n m falls)
+behind_ordered dialect names (Target t) n m falls = none n m (at_most n (spelled_behind (Target t)) m falls)
+behind_ordered dialect names (Opened None) n m falls = none n m falls
+behind_ordered dialect names (Opened (Some x)) n m falls = subst (λ (fs : List FaultAt). Ordered n fs m) (sym (append-nil (operand_faults dialect names x))) (operand_ordered dialect names x n m falls)
+behind_ordered dialect names (Called c) n m falls =
+    both n c.instance.left m _ _ (one_fault n c.instance.left (not (names_instance dialect names (capitals c.instance.text))) kinds.UnknownName falls.0) (arguments_ordered dialect names c.written c.instance.left m falls.1)
 
 -- an operation's operands stand behind its operator
-record Operates (names : List DeclaredName) (o : OperationText) (n m : ℕ) : Type 0 where
+record Operates (dialect : Dialect) (names : List DeclaredName) (o : OperationText) (n m : ℕ) : Type 0 where
   above : o.operator.left < n
-  operands : Ordered o.operator.left (operation_faults names (Some o)) m
+  operands : Ordered o.operator.left (operation_faults dialect names (Some o)) m
 
-operation_ordered : (names : List DeclaredName) (o : OperationText) (n m : ℕ) → Falls n (spelled_operation o) m → Operates names o n m
-operation_ordered names o n m falls =
-    let at = operator_at o.behind falls.0 o.operator falls.1 in
+operation_ordered : (dialect : Dialect) → (names : List DeclaredName) (o : OperationText) (n m : ℕ) → Falls n (spelled_operation dialect o) m → Operates dialect names o n m
+operation_ordered dialect names o n m falls =
+    let at = operator_at dialect o.behind falls.0 o.operator falls.1 in
     let P : ℕ → Type 0 = λ left. (left < n) × Falls left (spelled_behind o.behind) m in
     let h = subst P (sym at) (falls.2, falls.3) in
-    record { above = h.0; operands = behind_ordered names o.behind o.operator.left m h.1 }
+    record { above = h.0; operands = behind_ordered dialect names o.behind o.operator.left m h.1 }
 
-optional_ordered : (names : List DeclaredName) (o : Option OperationText) (n m : ℕ) → Falls n (spelled_optional_operation o) m → Ordered n (operation_faults names o) m
-optional_ordered names None n m falls = none n m falls
-optional_ordered names (Some o) n m falls = let h = operation_ordered names o n m falls in higher n o.operator.left m _ (let lt = h.above in omega arith) h.operands
+optional_ordered : (dialect : Dialect) → (names : List DeclaredName) (o : Option OperationText) (n m : ℕ) → Falls n (spelled_optional_operation dialect o) m → Ordered n (operation_faults dialect names o) m
+optional_ordered dialect names None n m falls = none n m falls
+optional_ordered dialect names (Some o) n m falls = let h = operation_ordered dialect names o n m falls in higher n o.operator.left m _ (let lt = h.above in omega arith) h.operands
 
-content_ordered : (names : List DeclaredName) (before : List LineText) (l : LineText) (n m : ℕ) → Falls n (spelled_line l) m → Ordered n (line_faults names before l) m
-content_ordered names before (Plain o) n m falls =
-    let h = split n (spelled_operation o) (ahead is_line_stop ∷ []) m falls in
-    let g = operation_ordered names o n h.0 h.1 in
+content_ordered : (dialect : Dialect) → (names : List DeclaredName) (before : List LineText) (l : LineText) (n m : ℕ) → Falls n (spelled_line dialect l) m → Ordered n (line_faults dialect names before l) m
+content_ordered dialect names before (Plain o) n m falls =
+    let h = split n (spelled_operation dialect o) (ahead is_line_stop ∷ []) m falls in
+    let g = operation_ordered dialect names o n h.0 h.1 in
     wider n h.0 m _ (both n o.operator.left h.0 _ _ (one_fault n o.operator.left (nat_le 4096 (length before)) kinds.TooMany g.above) g.operands) h.2
-content_ordered names before (Labelled t o) n m falls =
-    let h = split t.left (spelled_optional_operation o) (ahead is_line_stop ∷ []) m falls.1 in
+content_ordered dialect names before (Labelled t o) n m falls =
+    let h = split t.left (spelled_optional_operation dialect o) (ahead is_line_stop ∷ []) m falls.1 in
     let many = nat_le 4096 (length before) in
     let reserved = is_reserved (capitals t.text) in
     let label = more_faults n t.left reserved kinds.ReservedName (when many kinds.TooMany t.left) falls.0 (one_fault n t.left many kinds.TooMany falls.0) (here _ many kinds.TooMany t.left (refl, omega arith)) in
-    subst (λ (fs : List FaultAt). Ordered n fs m) (append_assoc (when reserved kinds.ReservedName t.left) (when many kinds.TooMany t.left) (operation_faults names o))
-    (wider n h.0 m _ (both n t.left h.0 _ _ label (optional_ordered names o t.left h.0 h.1)) h.2)
+    subst (λ (fs : List FaultAt). Ordered n fs m) (append_assoc (when reserved kinds.ReservedName t.left) (when many kinds.TooMany t.left) (operation_faults dialect names o))
+    (wider n h.0 m _ (both n t.left h.0 _ _ label (optional_ordered dialect names o t.left h.0 h.1)) h.2)
 
 -- ---- the whole
 
-body_ordered : (p : ProgramText) (stops : List Token → Bool) (qs : List Part) (n : ℕ) → Falls n (listed ends_blocks spelled_block p.blocks ++ (listed stops spelled_line p.lines ++ qs)) 0 → Ordered n (faults_of p) 0
-body_ordered p stops qs n falls =
-    let h = split n (listed ends_blocks spelled_block p.blocks) _ 0 falls in
-    let k = split h.0 (listed stops spelled_line p.lines) qs 0 h.2 in
-    let b = split n (flat_map (going ends_blocks spelled_block) p.blocks) (ahead ends_blocks ∷ []) h.0 h.1 in
-    let l = split h.0 (flat_map (going stops spelled_line) p.lines) (ahead stops ∷ []) k.0 k.1 in
+body_ordered : (dialect : Dialect) → (p : ProgramText) (stops : List Token → Bool) (qs : List Part) (n : ℕ) → Falls n (listed (ends_blocks dialect) (spelled_block dialect) p.blocks ++ (listed stops (spelled_line dialect) p.lines ++ qs)) 0 → Ordered n (faults_of dialect p) 0
+body_ordered dialect p stops qs n falls =
+    let h = split n (listed (ends_blocks dialect) (spelled_block dialect) p.blocks) _ 0 falls in
+    let k = split h.0 (listed stops (spelled_line dialect) p.lines) qs 0 h.2 in
+    let b = split n (flat_map (going (ends_blocks dialect) (spelled_block dialect)) p.blocks) (ahead (ends_blocks dialect) ∷ []) h.0 h.1 in
+    let l = split h.0 (flat_map (going stops (spelled_line dialect)) p.lines) (ahead stops ∷ []) k.0 k.1 in
     both n h.0 0 _ _
-    (wider n b.0 h.0 _ (blocks_ordered [] p.blocks n b.0 b.1) b.2)
-    (wider h.0 l.0 0 _ (items_ordered (going stops spelled_line) (line_faults (names_of p)) (content_ordered (names_of p)) [] p.lines h.0 l.0 l.1) (omega arith))
+    (wider n b.0 h.0 _ (blocks_ordered dialect [] p.blocks n b.0 b.1) b.2)
+    (wider h.0 l.0 0 _ (items_ordered (going stops (spelled_line dialect)) (line_faults dialect (names_of p)) (content_ordered dialect (names_of p)) [] p.lines h.0 l.0 l.1) (omega arith))
 
-program_ordered : (o : Option Token) (p : ProgramText) (n : ℕ) → Falls n (spelled_by o p) 0 → Ordered n (faults_of p) 0
-program_ordered None p n falls = body_ordered p ends_lines _ n falls
-program_ordered (Some t) p n falls =
+program_ordered : (dialect : Dialect) → (o : Option Token) (p : ProgramText) (n : ℕ) → Falls n (spelled_by dialect o p) 0 → Ordered n (faults_of dialect p) 0
+program_ordered dialect None p n falls = body_ordered dialect p ends_lines _ n falls
+program_ordered dialect (Some t) p n falls =
     let lt = falls.0 in
-    higher n t.left 0 _ (omega arith) (body_ordered p ends_named _ t.left falls.1)
+    higher n t.left 0 _ (omega arith) (body_ordered dialect p ends_named _ t.left falls.1)
 
 -- the faults of a text that was read
-pub text_ordered : (bytes : List ℕ) (p : ProgramText) → Says bytes p → InOrder (faults_of p)
-text_ordered bytes p says = (program_ordered p.name p (suc (length bytes)) (text_falls bytes (spelled_program p) says.0 says.1)).order
+pub text_ordered : (dialect : Dialect) → (bytes : List ℕ) (p : ProgramText) → Says dialect bytes p → InOrder (faults_of dialect p)
+text_ordered dialect bytes p says = (program_ordered dialect p.name p (suc (length bytes)) (text_falls dialect bytes (spelled_program dialect p) says.0 says.1)).order
 
 among : {X : Type 0} (P : X → Type 0) (x : X) (xs : List X) → Among x xs → AllByRecursion P xs → P x
 among P x [] a all = absurd a

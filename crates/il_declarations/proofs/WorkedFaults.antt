@@ -1,6 +1,8 @@
 -- Worked rows of what texts declare and of their faults.
 use Rattle.std.proofs.Common.{inl, ℕ, List, [], ◌∷◌, Some, None, refl, arith}
 use Rattle.std.specs.Prelude.{codes, pos}
+use Rattle.il_model.specs.declared.dialect.Dialect.{Dialect}
+use Rattle.il_model.specs.declared.dialect.Dialect.TheVariants as dialects
 use Rattle.il_model.specs.declared.value.Ty.TheVariants as types
 use Rattle.il_model.specs.declared.value.Value.TheVariants as values
 use Rattle.il_model.specs.declared.op.Op.TheVariants as ops
@@ -29,13 +31,14 @@ abbrev twice : DeclarationText
 twice = record { name = word (codes "A") 19; names = More (word (codes "a") 16 ∷ []); ty = word (codes "FOO") 12; initial = None }
 
 -- the second name is the first one's again
-pub is_doubled : HasFault (one_block (twice ∷ []) []) (record { kind = kinds.Duplicate; left = 16 })
-is_doubled = record { before = named_in twice (word (codes "A") 19) ∷ []; item = named_in twice (word (codes "a") 16); behind = []; is = refl; holds = (refl, refl) }
+pub is_doubled : (dialect : Dialect) → HasFault dialect (one_block (twice ∷ []) []) (record { kind = kinds.Duplicate; left = 16 })
+is_doubled dialect = record { before = named_in twice (word (codes "A") 19) ∷ []; item = named_in twice (word (codes "a") 16); behind = []; is = refl; holds = (refl, refl) }
 
 -- and there is no such type
-pub is_unknown : HasFault (one_block (twice ∷ []) []) (record { kind = kinds.UnknownType; left = 12 })
+pub is_unknown : (dialect : Dialect) → HasFault dialect (one_block (twice ∷ []) []) (record { kind = kinds.UnknownType; left = 12 })
 unfolding spells
-is_unknown = record { before = []; item = twice; behind = []; is = refl; holds = (refl, refl) }
+is_unknown dialects.Plain = record { before = []; item = twice; behind = []; is = refl; holds = (refl, refl) }
+is_unknown dialects.Extended = record { before = []; item = twice; behind = []; is = refl; holds = (refl, refl) }
 
 -- the name stands first
 pub name_first : IsNoLater (record { kind = kinds.Duplicate; left = 16 }) (record { kind = kinds.UnknownType; left = 12 })
@@ -58,6 +61,7 @@ small = record {
   code = record { label = Some (codes "L"); op = ops.Ld; modifier = plain; operand = operands.Variable (codes "X"); arguments = [] } ∷ [];
 }
 
-pub is_small : IsProgramOf (one_block (number ∷ timer ∷ []) (load ∷ [])) small
+pub is_small : (dialect : Dialect) → IsProgramOf dialect (one_block (number ∷ timer ∷ []) (load ∷ [])) small
 unfolding spells
-is_small = record { variables = refl; instances = refl; code = ((refl, record { op = refl; modifier = refl; operand = refl; arguments = tt }), tt) }
+is_small dialects.Plain = record { variables = refl; instances = refl; code = ((refl, record { op = refl; modifier = refl; operand = refl; arguments = tt }), tt) }
+is_small dialects.Extended = record { variables = refl; instances = refl; code = ((refl, record { op = refl; modifier = refl; operand = refl; arguments = tt }), tt) }

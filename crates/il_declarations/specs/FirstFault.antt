@@ -1,5 +1,7 @@
 -- The first fault of a text: the one that stands first, and of two at one place the one with the least number.
 use Rattle.std.specs.Prelude.{ℕ, ◌≡◌, ◌⊎◌, ◌<◌, ◌≤◌, Result, Ok, Err}
+use Rattle.il_model.specs.declared.dialect.Dialect.{Dialect}
+use Rattle.il_reader.specs.Grammar.{dialect_of}
 use Rattle.il_model.specs.Program.{Program}
 use Rattle.il_reader.specs.Grammar.{ProgramText}
 use Rattle.il_reader.specs.Texts.{place_at, SourceText}
@@ -31,22 +33,22 @@ error_number errors.Memory = 9
 
 -- ---- the first fault
 
-abbrev pub HasNoFault : ProgramText → Type 0
-HasNoFault p = (f : FaultAt) → HasFault p f → ⊥
+abbrev pub HasNoFault : Dialect → ProgramText → Type 0
+HasNoFault dialect p = (f : FaultAt) → HasFault dialect p f → ⊥
 
 -- one fault is told no later than another: more of the text is left where it stands, or it stands there too and its
 -- number is no greater
 abbrev pub IsNoLater : FaultAt → FaultAt → Type 0
 IsNoLater f g = (g.left < f.left) ⊎ ((f.left ≡ g.left) × (kind_number f.kind ≤ kind_number g.kind))
 
-pub record IsFirstFault (p : ProgramText) (f : FaultAt) : Type 0 where
-  pub has : HasFault p f
-  pub first : (g : FaultAt) → HasFault p g → IsNoLater f g
+pub record IsFirstFault (dialect : Dialect) (p : ProgramText) (f : FaultAt) : Type 0 where
+  pub has : HasFault dialect p f
+  pub first : (g : FaultAt) → HasFault dialect p g → IsNoLater f g
 
 -- the first fault of a text that was read, with its line and column
 pub record IsRefused (s : SourceText) (told : Fault) : Type 0 where
   pub fault : FaultAt
-  pub first : IsFirstFault s.says fault
+  pub first : IsFirstFault (dialect_of s.text) s.says fault
   pub kind : told.kind ≡ fault.kind
   pub place : told.place ≡ place_at s.text fault.left
 
@@ -61,4 +63,5 @@ IsTold s r = (first : Fault) → IsRefused s first → Answers (λ p. p) r (Err 
 
 -- the program of a text without a fault is given, unless memory ran out
 abbrev pub IsGiven : SourceText → Result Program DeclError → Type 0
-IsGiven s r = (P : Program) → IsProgramOf s.says P → HasNoFault s.says → Answers (λ p. p) r (Ok P)
+IsGiven s r = (P : Program) → IsProgramOf (dialect_of s.text) s.says P → HasNoFault (dialect_of s.text) s.says
+    → Answers (λ p. p) r (Ok P)

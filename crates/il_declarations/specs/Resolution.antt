@@ -1,6 +1,9 @@
 -- What the words of a declaration and of an instruction stand for, and what a call answered.
 use Rattle.std.specs.Prelude.{◌≡◌, ℕ, List, map, Option, Some, None, Result, Ok, Err, Bool, true, false, not}
 use Rattle.std.specs.Prelude.{if◌then◌else◌, codes}
+use Rattle.il_model.specs.declared.dialect.Dialect.{Dialect}
+use Rattle.il_model.specs.declared.dialect.Dialect.TheVariants as dialects
+use Rattle.il_model.specs.Dialects.{literal_in}
 use Rattle.il_model.specs.declared.value.Ty.{Ty}
 use Rattle.il_model.specs.declared.value.Ty.TheVariants as types
 use Rattle.il_model.specs.declared.value.Value.{Value}
@@ -15,8 +18,7 @@ use Rattle.il_model.specs.Kinds.{kind_of_name}
 use Rattle.il_model.specs.Words.{upper, spells}
 pub use Rattle.il_model.specs.Words.{plain}
 pub use Rattle.il_model.specs.Row.{same_type}
-use Rattle.il_model.specs.Values.{ty_of, number_of, typed_value}
-use Rattle.il_model.specs.Literals.{literal_of}
+use Rattle.il_model.specs.Values.{ty_of, number_of, typed_value, bare_value}
 use Rattle.il_model.specs.Locations.{area_of}
 use Rattle.il_model.specs.Typing.{loc_type, is_writable_area}
 use Rattle.il_model.specs.Codes.{is_type}
@@ -31,14 +33,19 @@ use Rattle.il_declarations.specs.declared.fault.DeclError.TheVariants as errors
 abbrev pub capitals : List ℕ → List ℕ
 capitals name = map upper name
 
-abbrev pub type_of : List ℕ → Option Ty
-type_of word =
+-- a type that an extended text alone has
+abbrev pub new_type : Dialect → List ℕ → Option Ty
+new_type dialects.Plain word = None
+new_type dialects.Extended word = if spells (codes "REAL") word then Some types.Real else None
+
+abbrev pub type_of : Dialect → List ℕ → Option Ty
+type_of dialect word =
     if spells (codes "BOOL") word then Some types.Bool
     else if spells (codes "INT") word then Some types.Int
     else if spells (codes "DINT") word then Some types.Dint
     else if spells (codes "TIME") word then Some types.Time
     else if spells (codes "LINT") word then Some types.Lint
-    else None
+    else new_type dialect word
 
 -- what a type word stands for: an elementary type or the kind of a function block
 abbrev pub kind_by : Option BlockKind → Option DeclaredType
@@ -49,8 +56,8 @@ abbrev pub type_by : Option Ty → Option BlockKind → Option DeclaredType
 type_by None kind = kind_by kind
 type_by (Some type) kind = Some (declared.Elementary type)
 
-abbrev pub declared_type : List ℕ → Option DeclaredType
-declared_type word = type_by (type_of word) (kind_of_name (capitals word))
+abbrev pub declared_type : Dialect → List ℕ → Option DeclaredType
+declared_type dialect word = type_by (type_of dialect word) (kind_of_name (capitals word))
 
 -- a bit is BOOL and a word INT, and no instance has a location; an unknown type is a fault of its own
 abbrev pub suits : Option DeclaredType → Loc → Bool
@@ -64,7 +71,7 @@ variable name type location initial = record { name = name; ty = type; location 
 -- a literal as a value of a type: a bare number that fits it, or a value of that type
 abbrev pub fitting : Ty → Option Literal → Option Value
 fitting type None = None
-fitting type (Some (Bare z)) = typed_value type z
+fitting type (Some (Bare z)) = bare_value type z
 fitting type (Some (Typed v)) = if same_type (ty_of v) type then typed_value type (number_of v) else None
 
 abbrev pub is_input : Option Loc → Bool
@@ -72,8 +79,8 @@ is_input None = false
 is_input (Some loc) = not (is_writable_area (area_of loc))
 
 -- the value that a literal gives a variable; an input has no first value of its own
-abbrev pub written_value : Ty → Option Loc → Token → Option Value
-written_value type loc t = if is_input loc then None else fitting type (literal_of t.text)
+abbrev pub written_value : Dialect → Ty → Option Loc → Token → Option Value
+written_value dialect type loc t = if is_input loc then None else fitting type (literal_in dialect t.text)
 
 abbrev pub opens : BehindText → Bool
 opens (Opened o) = true

@@ -3,10 +3,11 @@
 use Rattle.std.specs.Prelude.{◌≡◌, ◌⊎◌, ℕ, List, [], ◌∷◌, ◌++◌, length, map, Option, Some, None, is_none, Bool, true}
 use Rattle.std.specs.Prelude.{false, not, nat_le}
 use Rattle.std.specs.List.{flat_map, filter}
+use Rattle.il_model.specs.declared.dialect.Dialect.{Dialect}
+use Rattle.il_model.specs.Dialects.{literal_in}
 use Rattle.il_model.specs.declared.limits.TheConstants.{MOST_VARIABLES, MOST_INSTANCES, MOST_INSTRUCTIONS}
 use Rattle.il_model.specs.declared.program.Loc.{Loc}
 use Rattle.il_model.specs.Words.{is_reserved}
-use Rattle.il_model.specs.Literals.{literal_of}
 use Rattle.il_model.specs.CodedOperands.{loc_code}
 use Rattle.il_model.specs.Locations.{location_of}
 use Rattle.il_reader.specs.Tokens.{Token}
@@ -35,10 +36,12 @@ pub record Somewhere {X : Type 0} (P : List X → X → Type 0) (xs : List X) : 
 
 -- There are as many instances, or variables, as a program may have. With an unknown type none is asked; before it
 -- stands the fault of that type.
-abbrev pub has_no_room : Option DeclaredType → List DeclaredName → Bool
-has_no_room None before = false
-has_no_room (Some (declared.Elementary type)) before = nat_le MOST_VARIABLES (length (filter is_variable before))
-has_no_room (Some (declared.Block kind)) before = nat_le MOST_INSTANCES (length (filter is_instance before))
+abbrev pub has_no_room : Dialect → Option DeclaredType → List DeclaredName → Bool
+has_no_room dialect None before = false
+has_no_room dialect (Some (declared.Elementary type)) before =
+    nat_le MOST_VARIABLES (length (filter (is_variable dialect) before))
+has_no_room dialect (Some (declared.Block kind)) before =
+    nat_le MOST_INSTANCES (length (filter (is_instance dialect) before))
 
 -- it is no location, or none of the type
 abbrev pub is_no_place : Option DeclaredType → Option Loc → Bool
@@ -46,15 +49,15 @@ is_no_place type None = true
 is_no_place type (Some loc) = not (suits type loc)
 
 -- a variable before lies there
-abbrev pub is_overlapping : List DeclaredName → Option Loc → Bool
-is_overlapping before None = false
-is_overlapping before (Some loc) = is_occupied before (loc_code loc)
+abbrev pub is_overlapping : Dialect → List DeclaredName → Option Loc → Bool
+is_overlapping dialect before None = false
+is_overlapping dialect before (Some loc) = is_occupied dialect before (loc_code loc)
 
 -- an instance has no first value, an input neither, and else it has to fit; behind an unknown type nothing is asked
-abbrev pub is_bad_start : Option Loc → Token → Option DeclaredType → Bool
-is_bad_start loc t None = false
-is_bad_start loc t (Some (declared.Block kind)) = true
-is_bad_start loc t (Some (declared.Elementary type)) = is_none (written_value type loc t)
+abbrev pub is_bad_start : Dialect → Option Loc → Token → Option DeclaredType → Bool
+is_bad_start dialect loc t None = false
+is_bad_start dialect loc t (Some (declared.Block kind)) = true
+is_bad_start dialect loc t (Some (declared.Elementary type)) = is_none (written_value dialect type loc t)
 
 -- ---- instruction lines
 
@@ -77,11 +80,11 @@ asked_kind (AsLocation t) = kinds.BadLocation
 asked_kind a = kinds.UnknownName
 
 -- there is none; a text that was read has no constants but literals
-abbrev pub is_missing : List DeclaredName → Asked → Bool
-is_missing names (AsVariable t) = not (names_variable names (capitals t.text))
-is_missing names (AsInstance t) = not (names_instance names (capitals t.text))
-is_missing names (AsLocation t) = is_none (location_of t.text)
-is_missing names (AsLiteral t) = is_none (literal_of t.text)
+abbrev pub is_missing : Dialect → List DeclaredName → Asked → Bool
+is_missing dialect names (AsVariable t) = not (names_variable dialect names (capitals t.text))
+is_missing dialect names (AsInstance t) = not (names_instance dialect names (capitals t.text))
+is_missing dialect names (AsLocation t) = is_none (location_of t.text)
+is_missing dialect names (AsLiteral t) = is_none (literal_in dialect t.text)
 
 abbrev pub asked_by : OperandText → Asked
 asked_by (Constant t) = AsLiteral t
@@ -117,47 +120,50 @@ abbrev pub SomeName : ProgramText → ℕ → (List DeclaredName → DeclaredNam
 SomeName p left test = Somewhere (λ before x. (left ≡ x.name.left) × (test before x ≡ true)) (names_of p)
 
 -- so a declaration at its location
-abbrev pub SomePlace : ProgramText → ℕ → (List DeclaredName → Option DeclaredType → Option Loc → Bool) → Type 0
-SomePlace p left test = Somewhere
+abbrev pub SomePlace : Dialect → ProgramText → ℕ
+    → (List DeclaredName → Option DeclaredType → Option Loc → Bool) → Type 0
+SomePlace dialect p left test = Somewhere
     (λ before d. (t : Token) × (d.names ≡ Located t) × (left ≡ t.left)
-    × (test (flat_map names_in before) (type_in d) (location_of t.text) ≡ true)) (declarations_of p)
+    × (test (flat_map names_in before) (type_in dialect d) (location_of t.text) ≡ true)) (declarations_of p)
 
 -- so one at its first value
-abbrev pub SomeStart : ProgramText → ℕ → (Option Loc → Token → Option DeclaredType → Bool) → Type 0
-SomeStart p left test = Somewhere
+abbrev pub SomeStart : Dialect → ProgramText → ℕ → (Option Loc → Token → Option DeclaredType → Bool) → Type 0
+SomeStart dialect p left test = Somewhere
     (λ before d. (t : Token) × (d.initial ≡ Some t) × (left ≡ t.left)
-    × (test (location_in d.names) t (type_in d) ≡ true)) (declarations_of p)
+    × (test (location_in d.names) t (type_in dialect d) ≡ true)) (declarations_of p)
 
 -- a line asks for what there isn't, and it is called this
-abbrev pub SomeMissing : ProgramText → DeclKind → ℕ → Type 0
-SomeMissing p kind left =
+abbrev pub SomeMissing : Dialect → ProgramText → DeclKind → ℕ → Type 0
+SomeMissing dialect p kind left =
     Somewhere (λ before l. Somewhere
-    (λ others a. (asked_kind a ≡ kind) × (left ≡ (asked_token a).left) × (is_missing (names_of p) a ≡ true))
+    (λ others a. (asked_kind a ≡ kind) × (left ≡ (asked_token a).left) × (is_missing dialect (names_of p) a ≡ true))
     (asked_in l)) p.lines
 
-abbrev pub HasFaultOf : ProgramText → DeclKind → ℕ → Type 0
+abbrev pub HasFaultOf : Dialect → ProgramText → DeclKind → ℕ → Type 0
 -- A name stands that one before it is too, whatever its case, be it of a variable or of an instance.
-HasFaultOf p kinds.Duplicate left = SomeName p left (λ before x. is_declared before (capitals x.name.text))
+HasFaultOf dialect p kinds.Duplicate left = SomeName p left (λ before x. is_declared before (capitals x.name.text))
 -- A type word is neither a type nor the kind of a function block.
-HasFaultOf p kinds.UnknownType left =
-    Somewhere (λ before d. (left ≡ d.ty.left) × (is_none (type_in d) ≡ true)) (declarations_of p)
+HasFaultOf dialect p kinds.UnknownType left =
+    Somewhere (λ before d. (left ≡ d.ty.left) × (is_none (type_in dialect d) ≡ true)) (declarations_of p)
 -- A line names what isn't declared.
-HasFaultOf p kinds.UnknownName left = SomeMissing p kinds.UnknownName left
+HasFaultOf dialect p kinds.UnknownName left = SomeMissing dialect p kinds.UnknownName left
 -- A declaration puts its variable where none of its type can lie, or a line names a location that there isn't.
-HasFaultOf p kinds.BadLocation left = SomePlace p left (λ before type loc. is_no_place type loc)
-    ⊎ SomeMissing p kinds.BadLocation left
+HasFaultOf dialect p kinds.BadLocation left = SomePlace dialect p left (λ before type loc. is_no_place type loc)
+    ⊎ SomeMissing dialect p kinds.BadLocation left
 -- It puts it where a variable before lies.
-HasFaultOf p kinds.Overlap left = SomePlace p left (λ before type loc. is_overlapping before loc)
+HasFaultOf dialect p kinds.Overlap left =
+    SomePlace dialect p left (λ before type loc. is_overlapping dialect before loc)
 -- Its first value is none that it may have.
-HasFaultOf p kinds.BadInitial left = SomeStart p left is_bad_start
+HasFaultOf dialect p kinds.BadInitial left = SomeStart dialect p left (is_bad_start dialect)
 -- A reserved word stands as a name, or as a label.
-HasFaultOf p kinds.ReservedName left = SomeName p left (λ before x. is_reserved (capitals x.name.text))
+HasFaultOf dialect p kinds.ReservedName left = SomeName p left (λ before x. is_reserved (capitals x.name.text))
     ⊎ Somewhere (λ before l. (t : Token) × (o : Option OperationText) × (l ≡ Labelled t o) × (left ≡ t.left)
     × (is_reserved (capitals t.text) ≡ true)) p.lines
 -- There are as many variables, instances or lines before it as a program may have.
-HasFaultOf p kinds.TooMany left = SomeName p left (λ before x. has_no_room (type_in x.by) before)
+HasFaultOf dialect p kinds.TooMany left =
+    SomeName p left (λ before x. has_no_room dialect (type_in dialect x.by) before)
     ⊎ Somewhere (λ before l. (left ≡ begins_at l) × (nat_le MOST_INSTRUCTIONS (length before) ≡ true)) p.lines
 
 -- a text has a fault of a kind where so many bytes are left
-abbrev pub HasFault : ProgramText → FaultAt → Type 0
-HasFault p f = HasFaultOf p f.kind f.left
+abbrev pub HasFault : Dialect → ProgramText → FaultAt → Type 0
+HasFault dialect p f = HasFaultOf dialect p f.kind f.left

@@ -3,6 +3,9 @@
 -- FirstFault.
 use Rattle.std.specs.Prelude.{◌≡◌, ℕ, List, [], ◌∷◌, ◌++◌, length, Option, Some, None, is_some, unwrap_or, Result, Ok}
 use Rattle.std.specs.Prelude.{Err, Bool, false, ◌||◌, nat_le, if◌then◌else◌}
+use Rattle.il_model.specs.declared.dialect.Dialect.{Dialect}
+use Rattle.il_reader.specs.Grammar.{dialect_of}
+use Rattle.il_model.specs.Dialects.{literal_in}
 use Rattle.il_model.specs.declared.limits.TheConstants.{MOST_VARIABLES, MOST_INSTANCES, MOST_INSTRUCTIONS}
 use Rattle.il_model.specs.declared.value.Ty.{Ty}
 use Rattle.il_model.specs.declared.value.Ty.TheVariants as types
@@ -22,7 +25,6 @@ use Rattle.il_model.specs.Program.{Program, Declarations}
 use Rattle.il_model.specs.Resolved.{instance_in}
 use Rattle.il_model.specs.Words.{is_reserved}
 use Rattle.il_model.specs.Values.{zero_of}
-use Rattle.il_model.specs.Literals.{literal_of}
 use Rattle.il_model.specs.CodedOperands.{loc_code}
 use Rattle.il_model.specs.Codes.{is_number, is_taken}
 use Rattle.il_reader.specs.Tokens.{Token}
@@ -107,8 +109,8 @@ abbrev pub found_type : Token → Option DeclaredType → Result DeclaredType Fa
 found_type t None = refused kinds.UnknownType t
 found_type t (Some type) = Ok type
 
-abbrev pub known_type : Token → Result DeclaredType FaultAt
-known_type t = found_type t (declared_type t.text)
+abbrev pub known_type : Dialect → Token → Result DeclaredType FaultAt
+known_type dialect t = found_type t (declared_type dialect t.text)
 
 -- ---- initial values
 
@@ -117,25 +119,29 @@ fitted t None = refused kinds.BadInitial t
 fitted t (Some v) = Ok v
 
 -- where none is written it is that of the type
-abbrev pub elementary_value : Ty → Option Loc → Option Token → Result Value FaultAt
-elementary_value type loc None = Ok (zero_of type)
-elementary_value type loc (Some t) = fitted t (written_value type loc t)
+abbrev pub elementary_value : Dialect → Ty → Option Loc → Option Token → Result Value FaultAt
+elementary_value dialect type loc None = Ok (zero_of type)
+elementary_value dialect type loc (Some t) = fitted t (written_value dialect type loc t)
 
 -- an instance has no first value
-abbrev pub first_value : DeclaredType → Option Loc → Option Token → Result Value FaultAt
-first_value (declared.Elementary type) loc initial = elementary_value type loc initial
-first_value (declared.Block kind) loc None = Ok (values.Bool false)
-first_value (declared.Block kind) loc (Some t) = refused kinds.BadInitial t
+abbrev pub first_value : Dialect → DeclaredType → Option Loc → Option Token → Result Value FaultAt
+first_value dialect (declared.Elementary type) loc initial = elementary_value dialect type loc initial
+first_value dialect (declared.Block kind) loc None = Ok (values.Bool false)
+first_value dialect (declared.Block kind) loc (Some t) = refused kinds.BadInitial t
 
 -- Whatever stands here for an unknown type, an instance or a bad value, that is the fault behind the names, or isn't
 -- used.
-abbrev pub planned_value : Option DeclaredType → Option Token → Value
-planned_value (Some (declared.Elementary type)) None = zero_of type
-planned_value (Some (declared.Elementary type)) (Some t) = unwrap_or (written_value type None t) (values.Bool false)
-planned_value type initial = values.Bool false
+abbrev pub planned_value : Dialect → Option DeclaredType → Option Token → Value
+planned_value dialect (Some (declared.Elementary type)) None = zero_of type
+planned_value dialect (Some (declared.Elementary type)) (Some t) =
+    unwrap_or (written_value dialect type None t) (values.Bool false)
+planned_value dialect type initial = values.Bool false
 
-abbrev pub plan_of : DeclarationText → Plan
-plan_of d = record { ty = declared_type d.ty.text; initial = planned_value (declared_type d.ty.text) d.initial }
+abbrev pub plan_of : Dialect → DeclarationText → Plan
+plan_of dialect d = record {
+  ty = declared_type dialect d.ty.text;
+  initial = planned_value dialect (declared_type dialect d.ty.text) d.initial;
+}
 
 -- ---- variables and instances
 
@@ -157,31 +163,31 @@ with_declared plan known name loc (Some (declared.Block kind)) =
 unfoldable pub declare_name : Plan → Declarations → Token → Result Declarations FaultAt
 declare_name plan known t = new_name plan.ty known t >>= λ name. Ok (with_declared plan known name None plan.ty)
 
-unfoldable pub declare_located : Declarations → DeclarationText → Token → Result Declarations FaultAt
-declare_located known d location = do
-  name ← new_name (declared_type d.ty.text) known d.name
-  loc ← free_location (declared_type d.ty.text) known location
-  type ← known_type d.ty
-  initial ← first_value type (Some loc) d.initial
+unfoldable pub declare_located : Dialect → Declarations → DeclarationText → Token → Result Declarations FaultAt
+declare_located dialect known d location = do
+  name ← new_name (declared_type dialect d.ty.text) known d.name
+  loc ← free_location (declared_type dialect d.ty.text) known location
+  type ← known_type dialect d.ty
+  initial ← first_value dialect type (Some loc) d.initial
   Ok (with_declared (record { ty = Some type; initial = initial }) known name (Some loc) (Some type))
 
-unfoldable pub declare_listed : Declarations → DeclarationText → List Token → Result Declarations FaultAt
-declare_listed known d more = do
-  first ← declare_name (plan_of d) known d.name
-  named ← each (declare_name (plan_of d)) first more
-  type ← known_type d.ty
-  initial ← first_value type None d.initial
+unfoldable pub declare_listed : Dialect → Declarations → DeclarationText → List Token → Result Declarations FaultAt
+declare_listed dialect known d more = do
+  first ← declare_name (plan_of dialect d) known d.name
+  named ← each (declare_name (plan_of dialect d)) first more
+  type ← known_type dialect d.ty
+  initial ← first_value dialect type None d.initial
   Ok named
 
-abbrev pub declare_by : Declarations → DeclarationText → NamesText → Result Declarations FaultAt
-declare_by known d (Located location) = declare_located known d location
-declare_by known d (More more) = declare_listed known d more
+abbrev pub declare_by : Dialect → Declarations → DeclarationText → NamesText → Result Declarations FaultAt
+declare_by dialect known d (Located location) = declare_located dialect known d location
+declare_by dialect known d (More more) = declare_listed dialect known d more
 
-abbrev pub declare : Declarations → DeclarationText → Result Declarations FaultAt
-declare known d = declare_by known d d.names
+abbrev pub declare : Dialect → Declarations → DeclarationText → Result Declarations FaultAt
+declare dialect known d = declare_by dialect known d d.names
 
-abbrev pub declare_block : Declarations → List DeclarationText → Result Declarations FaultAt
-declare_block known ds = each declare known ds
+abbrev pub declare_block : Dialect → Declarations → List DeclarationText → Result Declarations FaultAt
+declare_block dialect known ds = each (declare dialect) known ds
 
 -- ---- instructions
 
@@ -195,45 +201,45 @@ constant t None = refused kinds.UnknownName t
 constant t (Some (Bare z)) = Ok (operands.Bare z)
 constant t (Some (Typed v)) = Ok (operands.Literal v)
 
-abbrev pub operand_of : Declarations → OperandText → Result Operand FaultAt
-operand_of known (Constant t) = constant t (literal_of t.text)
-operand_of known (Direct t) = direct t (location_of t.text)
-operand_of known (Named t) = if has_name known (capitals t.text) then Ok (operands.Variable (capitals t.text))
+abbrev pub operand_of : Dialect → Declarations → OperandText → Result Operand FaultAt
+operand_of dialect known (Constant t) = constant t (literal_in dialect t.text)
+operand_of dialect known (Direct t) = direct t (location_of t.text)
+operand_of dialect known (Named t) = if has_name known (capitals t.text) then Ok (operands.Variable (capitals t.text))
     else refused kinds.UnknownName t
-operand_of known (Field t f) = if has_instance known (capitals t.text)
+operand_of dialect known (Field t f) = if has_instance known (capitals t.text)
     then Ok (operands.Field (capitals t.text) (capitals f.text)) else refused kinds.UnknownName t
 
-abbrev pub optional_operand_of : Declarations → Option OperandText → Result Operand FaultAt
-optional_operand_of known None = Ok operands.Absent
-optional_operand_of known (Some x) = operand_of known x
+abbrev pub optional_operand_of : Dialect → Declarations → Option OperandText → Result Operand FaultAt
+optional_operand_of dialect known None = Ok operands.Absent
+optional_operand_of dialect known (Some x) = operand_of dialect known x
 
 -- what stands behind an operator; whether a jump's label stands somewhere is not asked here
-abbrev pub behind_of : Declarations → BehindText → Result Operand FaultAt
-behind_of known Nothing = Ok operands.Absent
-behind_of known (Given x) = operand_of known x
-behind_of known (Target t) = Ok (operands.Label (capitals t.text))
-behind_of known (Opened o) = optional_operand_of known o
-behind_of known (Called c) = if has_instance known (capitals c.instance.text)
+abbrev pub behind_of : Dialect → Declarations → BehindText → Result Operand FaultAt
+behind_of dialect known Nothing = Ok operands.Absent
+behind_of dialect known (Given x) = operand_of dialect known x
+behind_of dialect known (Target t) = Ok (operands.Label (capitals t.text))
+behind_of dialect known (Opened o) = optional_operand_of dialect known o
+behind_of dialect known (Called c) = if has_instance known (capitals c.instance.text)
     then Ok (operands.Instance (capitals c.instance.text)) else refused kinds.UnknownName c.instance
 
 -- an argument of a call; whether the block has such a field is judged with the types
-unfoldable pub argument_of : Declarations → ArgumentText → Result Argument FaultAt
-argument_of known a = operand_of known a.operand >>= λ x. Ok
+unfoldable pub argument_of : Dialect → Declarations → ArgumentText → Result Argument FaultAt
+argument_of dialect known a = operand_of dialect known a.operand >>= λ x. Ok
     (record { field = capitals a.field.text; side = a.side; operand = x })
 
-abbrev pub pushed_argument : Declarations → List Argument → ArgumentText → Result (List Argument) FaultAt
-pushed_argument known found a = argument_of known a >>= λ x. Ok (found ++ x ∷ [])
+abbrev pub pushed_argument : Dialect → Declarations → List Argument → ArgumentText → Result (List Argument) FaultAt
+pushed_argument dialect known found a = argument_of dialect known a >>= λ x. Ok (found ++ x ∷ [])
 
-abbrev pub behind_arguments : Declarations → BehindText → Result (List Argument) FaultAt
-behind_arguments known (Called c) = each (pushed_argument known) [] (arguments_of c)
-behind_arguments known b = Ok []
+abbrev pub behind_arguments : Dialect → Declarations → BehindText → Result (List Argument) FaultAt
+behind_arguments dialect known (Called c) = each (pushed_argument dialect known) [] (arguments_of c)
+behind_arguments dialect known b = Ok []
 
 -- the instruction of an operation, or the empty one
-unfoldable pub instruction_of : Declarations → Option (List ℕ) → Option OperationText → Result Instr FaultAt
-instruction_of known label None =
+unfoldable pub instruction_of : Dialect → Declarations → Option (List ℕ) → Option OperationText → Result Instr FaultAt
+instruction_of dialect known label None =
     Ok (record { label = label; op = ops.Empty; modifier = plain; operand = operands.Absent; arguments = [] })
-instruction_of known label (Some o) =
-    behind_of known o.behind >>= λ x. behind_arguments known o.behind >>= λ arguments. Ok
+instruction_of dialect known label (Some o) =
+    behind_of dialect known o.behind >>= λ x. behind_arguments dialect known o.behind >>= λ arguments. Ok
     (record {
       label = label;
       op = o.operator.mnemonic.op;
@@ -251,30 +257,30 @@ room code left = if nat_le MOST_INSTRUCTIONS (length code) then Err (record { ki
 abbrev pub label_of : Token → Result (List ℕ) FaultAt
 label_of t = if is_reserved (capitals t.text) then refused kinds.ReservedName t else Ok (capitals t.text)
 
-unfoldable pub instruct_labelled : Declarations → List Instr → Token → Option OperationText
+unfoldable pub instruct_labelled : Dialect → Declarations → List Instr → Token → Option OperationText
     → Result (List Instr) FaultAt
-instruct_labelled known code t o = do
+instruct_labelled dialect known code t o = do
   label ← label_of t
   here ← room code t.left
-  line ← instruction_of known (Some label) o
+  line ← instruction_of dialect known (Some label) o
   Ok (code ++ line ∷ [])
 
-unfoldable pub instruct_plain : Declarations → List Instr → OperationText → Result (List Instr) FaultAt
-instruct_plain known code o = do
+unfoldable pub instruct_plain : Dialect → Declarations → List Instr → OperationText → Result (List Instr) FaultAt
+instruct_plain dialect known code o = do
   here ← room code o.operator.left
-  line ← instruction_of known None (Some o)
+  line ← instruction_of dialect known None (Some o)
   Ok (code ++ line ∷ [])
 
-abbrev pub instruct : Declarations → List Instr → LineText → Result (List Instr) FaultAt
-instruct known code (Labelled t o) = instruct_labelled known code t o
-instruct known code (Plain o) = instruct_plain known code o
+abbrev pub instruct : Dialect → Declarations → List Instr → LineText → Result (List Instr) FaultAt
+instruct dialect known code (Labelled t o) = instruct_labelled dialect known code t o
+instruct dialect known code (Plain o) = instruct_plain dialect known code o
 
 -- ---- the whole
 
-unfoldable pub program_at : ProgramText → Result Program FaultAt
-program_at p = do
-  known ← each declare_block nothing p.blocks
-  code ← each (instruct known) [] p.lines
+unfoldable pub program_at : Dialect → ProgramText → Result Program FaultAt
+program_at dialect p = do
+  known ← each (declare_block dialect) nothing p.blocks
+  code ← each (instruct dialect known) [] p.lines
   Ok (record { variables = known.variables; instances = known.instances; code = code })
 
 abbrev pub told : List ℕ → Result Program FaultAt → Result Program Fault
@@ -283,4 +289,4 @@ told text (Err f) = Err (record { kind = f.kind; place = place_at text f.left })
 
 -- the program of a text, or its first fault with its line and column
 abbrev pub resolution_of : SourceText → Result Program Fault
-resolution_of s = told s.text (program_at s.says)
+resolution_of s = told s.text (program_at (dialect_of s.text) s.says)

@@ -12,8 +12,8 @@ use crate::declared::Declared;
 use crate::fault::{DeclKind, Failure, FaultAt};
 use crate::variables::{capital_name, refused};
 use il_model::{
-    Argument, Arguments, Instr, Literal, MOST_INSTRUCTIONS, Modifier, Name, Op, Operand,
-    is_reserved, literal_from, location_from,
+    Argument, Arguments, Dialect, Instr, Literal, MOST_INSTRUCTIONS, Modifier, Name, Op, Operand,
+    is_reserved, location_from,
 };
 use il_reader::{Behind, Call, Lexeme, Line, Operation};
 use std::alloc::Global;
@@ -28,8 +28,13 @@ fn constant(t: Lexeme, given: Option<Literal>) -> Result<Operand, Failure>
     }
 }
 
-fn variable(alloc: Global, known: &Declared, t: Lexeme) -> Result<Operand, Failure>
-    ensures { Gives (λ x. x) result (operand_of known.now (Named (token t.entry))) }
+fn variable(
+    dialect: Dialect,
+    alloc: Global,
+    known: &Declared,
+    t: Lexeme,
+) -> Result<Operand, Failure>
+    ensures { Gives (λ x. x) result (operand_of dialect known.now (Named (token t.entry))) }
 {
     let name = capital_name(alloc, t.text)?;
     if known.is_variable(&name) {
@@ -39,8 +44,14 @@ fn variable(alloc: Global, known: &Declared, t: Lexeme) -> Result<Operand, Failu
     }
 }
 
-fn field_of(alloc: Global, known: &Declared, t: Lexeme, field: Lexeme) -> Result<Operand, Failure>
-    ensures { Gives (λ x. x) result (operand_of known.now (Field (token t.entry) (token field.entry))) }
+fn field_of(
+    dialect: Dialect,
+    alloc: Global,
+    known: &Declared,
+    t: Lexeme,
+    field: Lexeme,
+) -> Result<Operand, Failure>
+    ensures { Gives (λ x. x) result (operand_of dialect known.now (Field (token t.entry) (token field.entry))) }
 {
     let name = capital_name(alloc, t.text)?;
     if known.is_instance(&name) {
@@ -51,38 +62,45 @@ fn field_of(alloc: Global, known: &Declared, t: Lexeme, field: Lexeme) -> Result
 }
 
 fn given_operand(
+    dialect: Dialect,
     alloc: Global,
     known: &Declared,
     written: il_reader::Operand,
 ) -> Result<Operand, Failure>
-    ensures { Gives (λ x. x) result (operand_of known.now (operand written.entry)) }
+    ensures { Gives (λ x. x) result (operand_of dialect known.now (operand written.entry)) }
 {
     match written {
-        il_reader::Operand::Constant(t) => constant(t, literal_from(t.text)),
+        il_reader::Operand::Constant(t) => constant(t, dialect.literal(t.text)),
         il_reader::Operand::Direct(t) => match location_from(t.text) {
             Some(loc) => Ok(Operand::Direct(loc)),
             None => Err(refused(DeclKind::BadLocation, t)),
         },
-        il_reader::Operand::Named(t) => variable(alloc, known, t),
-        il_reader::Operand::Field(t, f) => field_of(alloc, known, t, f),
+        il_reader::Operand::Named(t) => variable(dialect, alloc, known, t),
+        il_reader::Operand::Field(t, f) => field_of(dialect, alloc, known, t, f),
     }
 }
 
 fn optional_operand(
+    dialect: Dialect,
     alloc: Global,
     known: &Declared,
     written: Option<il_reader::Operand>,
 ) -> Result<Operand, Failure>
-    ensures { Gives (λ x. x) result (optional_operand_of known.now (option_map operand written.entry)) }
+    ensures { Gives (λ x. x) result (optional_operand_of dialect known.now (option_map operand written.entry)) }
 {
     match written {
-        Some(x) => given_operand(alloc, known, x),
+        Some(x) => given_operand(dialect, alloc, known, x),
         None => Ok(Operand::Absent),
     }
 }
 
-fn called_instance(alloc: Global, known: &Declared, written: &Call) -> Result<Operand, Failure>
-    ensures { Gives (λ x. x) result (behind_of known.now (Called (call written.now))) }
+fn called_instance(
+    dialect: Dialect,
+    alloc: Global,
+    known: &Declared,
+    written: &Call,
+) -> Result<Operand, Failure>
+    ensures { Gives (λ x. x) result (behind_of dialect known.now (Called (call written.now))) }
 {
     let instance = capital_name(alloc, written.instance.text)?;
     if known.is_instance(&instance) {
@@ -92,27 +110,33 @@ fn called_instance(alloc: Global, known: &Declared, written: &Call) -> Result<Op
     }
 }
 
-fn operand_behind(alloc: Global, known: &Declared, written: &Behind) -> Result<Operand, Failure>
-    ensures { Gives (λ x. x) result (behind_of known.now (behind written.now)) }
+fn operand_behind(
+    dialect: Dialect,
+    alloc: Global,
+    known: &Declared,
+    written: &Behind,
+) -> Result<Operand, Failure>
+    ensures { Gives (λ x. x) result (behind_of dialect known.now (behind written.now)) }
 {
     match written {
         Behind::Nothing => Ok(Operand::Absent),
-        Behind::Given(x) => given_operand(alloc, known, *x),
+        Behind::Given(x) => given_operand(dialect, alloc, known, *x),
         Behind::Target(t) => Ok(Operand::Label(capital_name(alloc, t.text)?)),
-        Behind::Opened(x) => optional_operand(alloc, known, *x),
-        Behind::Called(call) => called_instance(alloc, known, call),
+        Behind::Opened(x) => optional_operand(dialect, alloc, known, *x),
+        Behind::Called(call) => called_instance(dialect, alloc, known, call),
     }
 }
 
 #[tactic(auto, unfolding(crate::specs::Walk::argument_of))]
 fn given_argument(
+    dialect: Dialect,
     alloc: Global,
     known: &Declared,
     written: il_reader::Argument,
 ) -> Result<Argument, Failure>
-    ensures { Gives (λ x. x) result (argument_of known.now (argument written.entry)) }
+    ensures { Gives (λ x. x) result (argument_of dialect known.now (argument written.entry)) }
 {
-    let operand = given_operand(alloc, known, written.operand)?;
+    let operand = given_operand(dialect, alloc, known, written.operand)?;
     Ok(Argument {
         field: capital_name(alloc, written.field.text)?,
         side: written.side,
@@ -121,41 +145,45 @@ fn given_argument(
 }
 
 fn push_argument(
+    dialect: Dialect,
     alloc: Global,
     known: &Declared,
     found: &mut Vec<Argument>,
     written: il_reader::Argument,
 ) -> Result<(), Failure>
-    ensures { Gives (λ u. found.new.items) result (pushed_argument known.now found.old.items (argument written.entry)) }
+    ensures { Gives (λ u. found.new.items) result
+        (pushed_argument dialect known.now found.old.items (argument written.entry)) }
 {
-    let one = given_argument(alloc, known, written)?;
+    let one = given_argument(dialect, alloc, known, written)?;
     found.push(one)?;
     Ok(())
 }
 
 fn given_arguments(
+    dialect: Dialect,
     alloc: Global,
     known: &Declared,
     given: &[il_reader::Argument],
 ) -> Result<Vec<Argument>, Failure>
-    ensures { Gives (λ v. v.items) result (each (pushed_argument known.now) [] (map argument given.now)) }
+    ensures { Gives (λ v. v.items) result (each (pushed_argument dialect known.now) [] (map argument given.now)) }
 {
     let mut found = Vec::new(alloc);
     for written in given {
-        push_argument(alloc, known, &mut found, *written)?;
+        push_argument(dialect, alloc, known, &mut found, *written)?;
     }
     Ok(found)
 }
 
 fn arguments_behind(
+    dialect: Dialect,
     alloc: Global,
     known: &Declared,
     written: &Behind,
 ) -> Result<Arguments<Argument>, Failure>
-    ensures { Gives (λ v. v) result (behind_arguments known.now (behind written.now)) }
+    ensures { Gives (λ v. v) result (behind_arguments dialect known.now (behind written.now)) }
 {
     let given = match written {
-        Behind::Called(call) => given_arguments(alloc, known, call.arguments())?,
+        Behind::Called(call) => given_arguments(dialect, alloc, known, call.arguments())?,
         _ => Vec::new(alloc),
     };
     Ok(Arguments::of(given))
@@ -179,15 +207,16 @@ fn with_opening(opens: bool, m: Modifier) -> Modifier
 
 #[tactic(auto, unfolding(crate::specs::Walk::instruction_of))]
 fn instruction(
+    dialect: Dialect,
     alloc: Global,
     known: &Declared,
     label: Option<Name>,
     written: &Operation,
 ) -> Result<Instr, Failure>
-    ensures { Gives (λ x. x) result (instruction_of known.now label (Some (operation written.now))) }
+    ensures { Gives (λ x. x) result (instruction_of dialect known.now label (Some (operation written.now))) }
 {
-    let operand = operand_behind(alloc, known, &written.behind)?;
-    let arguments = arguments_behind(alloc, known, &written.behind)?;
+    let operand = operand_behind(dialect, alloc, known, &written.behind)?;
+    let arguments = arguments_behind(dialect, alloc, known, &written.behind)?;
     let mnemonic = written.operator.mnemonic;
     Ok(Instr {
         label,
@@ -200,16 +229,17 @@ fn instruction(
 
 #[tactic(auto, unfolding(crate::specs::Walk::instruction_of))]
 fn labelled(
+    dialect: Dialect,
     alloc: Global,
     known: &Declared,
     label: Name,
     written: Option<&Operation>,
 ) -> Result<Instr, Failure>
     ensures { Gives (λ x. x) result
-        (instruction_of known.now (Some label) (option_map (λ o. operation o.now) written.entry)) }
+        (instruction_of dialect known.now (Some label) (option_map (λ o. operation o.now) written.entry)) }
 {
     match written {
-        Some(o) => instruction(alloc, known, Some(label), o),
+        Some(o) => instruction(dialect, alloc, known, Some(label), o),
         None => Ok(Instr {
             label: Some(label),
             op: Op::Empty,
@@ -250,6 +280,7 @@ fn lawful_label(alloc: Global, t: Lexeme) -> Result<Name, Failure>
 
 #[tactic(auto, unfolding(crate::specs::Walk::instruct_labelled))]
 fn push_labelled(
+    dialect: Dialect,
     alloc: Global,
     known: &Declared,
     code: &mut Vec<Instr>,
@@ -257,49 +288,58 @@ fn push_labelled(
     written: Option<&Operation>,
 ) -> Result<(), Failure>
     ensures { Gives (λ u. code.new.items) result
-        (instruct_labelled known.now code.old.items (token t.entry) (option_map (λ o. operation o.now) written.entry)) }
+        (instruct_labelled dialect known.now code.old.items (token t.entry)
+        (option_map (λ o. operation o.now) written.entry)) }
 {
     let label = lawful_label(alloc, t)?;
     has_room(code.as_slice(), t.left)?;
-    code.push(labelled(alloc, known, label, written)?)?;
+    code.push(labelled(dialect, alloc, known, label, written)?)?;
     Ok(())
 }
 
 #[tactic(auto, unfolding(crate::specs::Walk::instruct_plain))]
 fn push_plain(
+    dialect: Dialect,
     alloc: Global,
     known: &Declared,
     code: &mut Vec<Instr>,
     written: &Operation,
 ) -> Result<(), Failure>
-    ensures { Gives (λ u. code.new.items) result (instruct_plain known.now code.old.items (operation written.now)) }
+    ensures { Gives (λ u. code.new.items) result
+        (instruct_plain dialect known.now code.old.items (operation written.now)) }
 {
     has_room(code.as_slice(), written.operator.left)?;
-    code.push(instruction(alloc, known, None, written)?)?;
+    code.push(instruction(dialect, alloc, known, None, written)?)?;
     Ok(())
 }
 
 fn push_line(
+    dialect: Dialect,
     alloc: Global,
     known: &Declared,
     code: &mut Vec<Instr>,
     written: &Line,
 ) -> Result<(), Failure>
-    ensures { Gives (λ u. code.new.items) result (instruct known.now code.old.items (line written.now)) }
+    ensures { Gives (λ u. code.new.items) result (instruct dialect known.now code.old.items (line written.now)) }
 {
     match written {
-        Line::Labelled(t, o) => push_labelled(alloc, known, code, *t, o.as_ref()),
-        Line::Plain(o) => push_plain(alloc, known, code, o),
+        Line::Labelled(t, o) => push_labelled(dialect, alloc, known, code, *t, o.as_ref()),
+        Line::Plain(o) => push_plain(dialect, alloc, known, code, o),
     }
 }
 
 /// The instructions of the lines.
-pub fn instructions(alloc: Global, known: &Declared, lines: &[Line]) -> Result<Vec<Instr>, Failure>
-    ensures { Gives (λ v. v.items) result (each (instruct known.now) [] (map line lines.now)) }
+pub fn instructions(
+    dialect: Dialect,
+    alloc: Global,
+    known: &Declared,
+    lines: &[Line],
+) -> Result<Vec<Instr>, Failure>
+    ensures { Gives (λ v. v.items) result (each (instruct dialect known.now) [] (map line lines.now)) }
 {
     let mut code = Vec::new(alloc);
     for written in lines {
-        push_line(alloc, known, &mut code, written)?;
+        push_line(dialect, alloc, known, &mut code, written)?;
     }
     Ok(code)
 }

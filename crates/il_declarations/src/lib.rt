@@ -10,7 +10,8 @@
 //!
 //! Proved: Ok gives the program that the source declares (`specs/Declaring`), exactly where it has no fault; else what
 //! is told is the first of all faults that it has (`specs/TextFaults`, `specs/FirstFault`), with its place. The
-//! program's names are lawful and distinct, its locations distinct and of their type, its first values lawful.
+//! program's names are lawful and distinct, its locations distinct and of their type, its first values lawful. REAL and
+//! its literals are known in extended texts alone (`Source::dialect`).
 //!
 //! Only tested: nothing; `texts.rows` of `tests_rows` has sources with their faults.
 #![tactic(auto)]

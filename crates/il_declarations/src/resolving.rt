@@ -1,8 +1,8 @@
 //! From a text that was read to its program.
 
-ghost use Rattle.std.specs.Prelude.{map, IfOk};
+ghost use Rattle.std.specs.Prelude.{◌≡◌, map, IfOk};
 ghost use Rattle.il_model.specs.Declarable.{IsDeclared};
-ghost use Rattle.il_reader.specs.Grammar.{declarations};
+ghost use Rattle.il_reader.specs.Grammar.{declarations, dialect_of};
 ghost use Rattle.il_declarations.specs.Resolution.{Answers};
 ghost use Rattle.il_declarations.specs.Walk.{Gives, nothing, declare_block, program_at, resolution_of, each};
 ghost use Rattle.il_declarations.specs.Declaring.{IsProgramOf};
@@ -12,28 +12,34 @@ use crate::declared::Declared;
 use crate::fault::{DeclError, Failure, Fault};
 use crate::instructions::instructions;
 use crate::variables::declare_each;
-use il_model::Program;
+use il_model::{Dialect, Program};
 use il_reader::{Declaration, Source};
 use std::alloc::Global;
 
-fn declared(alloc: Global, blocks: &[Vec<Declaration>]) -> Result<Declared, Failure>
-    ensures { Gives (λ d. d) result (each declare_block nothing (map (λ ds. declarations ds.items) blocks.now)) }
+fn declared(
+    dialect: Dialect,
+    alloc: Global,
+    blocks: &[Vec<Declaration>],
+) -> Result<Declared, Failure>
+    ensures { Gives (λ d. d) result
+        (each (declare_block dialect) nothing (map (λ ds. declarations ds.items) blocks.now)) }
 {
     let mut known = Declared::new(alloc);
     for block in blocks {
-        declare_each(alloc, &mut known, block.as_slice())?;
+        declare_each(dialect, alloc, &mut known, block.as_slice())?;
     }
     Ok(known)
 }
 
 #[tactic(auto, unfolding(crate::specs::Walk::program_at))]
-fn program(alloc: Global, source: &Source) -> Result<Program, Failure>
+fn program(dialect: Dialect, alloc: Global, source: &Source) -> Result<Program, Failure>
+    requires { dialect ≡ dialect_of source.now.text }
     ensures text { IfOk result (λ p. IsDeclared p) }
-    ensures exact { Gives (λ p. p) result (program_at source.now.says) }
+    ensures exact { Gives (λ p. p) result (program_at dialect source.now.says) }
 {
     source.is_read();
-    let known = declared(alloc, source.blocks())?;
-    let code = instructions(alloc, &known, source.lines())?;
+    let known = declared(dialect, alloc, source.blocks())?;
+    let code = instructions(dialect, alloc, &known, source.lines())?;
     let (variables, instances) = known.into_parts();
     match Program::new(variables, instances, code) {
         Some(program) => Ok(program),
@@ -46,7 +52,7 @@ fn walked(alloc: Global, source: &Source) -> Result<Program, DeclError>
     ensures text { IfOk result (λ p. IsDeclared p) }
     ensures exact { Answers (λ p. p) result (resolution_of source.now) }
 {
-    match program(alloc, source) {
+    match program(source.dialect(), alloc, source) {
         Ok(program) => Ok(program),
         Err(Failure::Refused(refusal)) => Err(DeclError::Fault(Fault {
             kind: refusal.kind,
@@ -67,7 +73,8 @@ pub fn resolve(alloc: Global, source: Source<'_>) -> Result<Program, DeclError>
     // variable or an instance that is declared, a location or a value.
     ensures text { IfOk result (λ p. IsDeclared p) }
     // The program is what the text declares, and the text has no fault.
-    ensures found { IfOk result (λ p. IsProgramOf source.entry.says p × HasNoFault source.entry.says) }
+    ensures found { IfOk result (λ p. IsProgramOf (dialect_of source.entry.text) source.entry.says p
+        × HasNoFault (dialect_of source.entry.text) source.entry.says) }
     // What a text without a fault declares is the program, unless memory runs out.
     ensures only { IsGiven source.entry result }
     // A fault that is told is the first of all that the text has.

@@ -3,7 +3,7 @@
 ghost use Rattle.std.specs.Prelude.{◌≡◌, IfOk, OnOk, map};
 ghost use Rattle.il_reader.specs.Tokens.{token};
 ghost use Rattle.il_reader.specs.Grammar.{declaration, declarations};
-ghost use Rattle.il_declarations.specs.Resolution.{capitals, type_of, declared_type, suits, variable};
+ghost use Rattle.il_declarations.specs.Resolution.{capitals, new_type, type_of, declared_type, suits, variable};
 ghost use Rattle.il_declarations.specs.Walk.{Gives, is_full, new_name, free_location, found_type, plan_of, with_declared};
 ghost use Rattle.il_declarations.specs.Walk.{declare_name, declare_located, declare_listed, declare, declare_block, each};
 
@@ -11,8 +11,8 @@ use crate::declared::Declared;
 use crate::fault::{DeclKind, Failure, FaultAt};
 use crate::initial::{first_value, planned_value};
 use il_model::{
-    BlockKind, Instance, Loc, MOST_INSTANCES, MOST_VARIABLES, Name, Ty, Value, Variable, capital,
-    is_reserved, is_spelled, loc_type, location_from,
+    BlockKind, Dialect, Instance, Loc, MOST_INSTANCES, MOST_VARIABLES, Name, Ty, Value, Variable,
+    capital, is_reserved, is_spelled, loc_type, location_from,
 };
 use il_reader::{Declaration, Lexeme, Names};
 use std::alloc::{AllocError, Global};
@@ -49,8 +49,18 @@ pub fn capital_name(alloc: Global, text: &[u8]) -> Result<Name, AllocError>
     Ok(Name::of(bytes))
 }
 
-fn elementary(word: &[u8]) -> Option<Ty>
-    ensures { result ≡ type_of word.now }
+/// A type that an extended text alone has.
+fn new_type(dialect: Dialect, word: &[u8]) -> Option<Ty>
+    ensures { result ≡ new_type dialect word.now }
+{
+    match dialect {
+        Dialect::Plain => None,
+        Dialect::Extended => is_spelled(b"REAL", word).then_some(Ty::Real),
+    }
+}
+
+fn elementary(dialect: Dialect, word: &[u8]) -> Option<Ty>
+    ensures { result ≡ type_of dialect word.now }
 {
     if is_spelled(b"BOOL", word) {
         Some(Ty::Bool)
@@ -63,15 +73,19 @@ fn elementary(word: &[u8]) -> Option<Ty>
     } else if is_spelled(b"LINT", word) {
         Some(Ty::Lint)
     } else {
-        None
+        new_type(dialect, word)
     }
 }
 
 /// The type that a word stands for, an elementary one or the kind of a function block; None where it is neither.
-fn declared_type(alloc: Global, word: &[u8]) -> Result<Option<DeclaredType>, AllocError>
-    ensures { IfOk result (λ ty. ty ≡ declared_type word.now) }
+fn declared_type(
+    dialect: Dialect,
+    alloc: Global,
+    word: &[u8],
+) -> Result<Option<DeclaredType>, AllocError>
+    ensures { IfOk result (λ ty. ty ≡ declared_type dialect word.now) }
 {
-    if let Some(ty) = elementary(word) {
+    if let Some(ty) = elementary(dialect, word) {
         return Ok(Some(DeclaredType::Elementary(ty)));
     }
     let name = capital_name(alloc, word)?;
@@ -137,13 +151,13 @@ fn unoccupied(ty: Option<DeclaredType>, known: &Declared, t: Lexeme) -> Result<L
     }
 }
 
-fn planned(ty: Option<DeclaredType>, d: &Declaration) -> Plan
-    requires { ty ≡ declared_type (declaration d.now).ty.text }
-    ensures { result ≡ plan_of (declaration d.now) }
+fn planned(dialect: Dialect, ty: Option<DeclaredType>, d: &Declaration) -> Plan
+    requires { ty ≡ declared_type dialect (declaration d.now).ty.text }
+    ensures { result ≡ plan_of dialect (declaration d.now) }
 {
     Plan {
         ty,
-        initial: planned_value(ty, d.initial),
+        initial: planned_value(dialect, ty, d.initial),
     }
 }
 
@@ -207,18 +221,19 @@ fn push_names(
 
 #[tactic(auto, unfolding(crate::specs::Walk::declare_located))]
 fn declare_at(
+    dialect: Dialect,
     alloc: Global,
     known: &mut Declared,
     d: &Declaration,
     at: Lexeme,
 ) -> Result<(), Failure>
-    ensures { Gives (λ u. known.new) result (declare_located known.old (declaration d.now) (token at.entry)) }
+    ensures { Gives (λ u. known.new) result (declare_located dialect known.old (declaration d.now) (token at.entry)) }
 {
-    let written = declared_type(alloc, d.ty.text)?;
+    let written = declared_type(dialect, alloc, d.ty.text)?;
     let name = lawful_name(alloc, written, known, d.name)?;
     let loc = unoccupied(written, known, at)?;
     let ty = known_type(written, d.ty)?;
-    let initial = first_value(ty, Some(loc), d.initial)?;
+    let initial = first_value(dialect, ty, Some(loc), d.initial)?;
     let plan = Plan {
         ty: Some(ty),
         initial,
@@ -229,41 +244,49 @@ fn declare_at(
 
 #[tactic(auto, unfolding(crate::specs::Walk::declare_listed))]
 fn declare_names(
+    dialect: Dialect,
     alloc: Global,
     known: &mut Declared,
     d: &Declaration,
     more: &[Lexeme],
 ) -> Result<(), Failure>
-    ensures { Gives (λ u. known.new) result (declare_listed known.old (declaration d.now) (map token more.now)) }
+    ensures { Gives (λ u. known.new) result
+        (declare_listed dialect known.old (declaration d.now) (map token more.now)) }
 {
-    let written = declared_type(alloc, d.ty.text)?;
-    let plan = planned(written, d);
+    let written = declared_type(dialect, alloc, d.ty.text)?;
+    let plan = planned(dialect, written, d);
     push_name(alloc, plan, known, d.name)?;
     push_names(alloc, plan, known, more)?;
     let ty = known_type(written, d.ty)?;
-    first_value(ty, None, d.initial)?;
+    first_value(dialect, ty, None, d.initial)?;
     Ok(())
 }
 
-fn declare_one(alloc: Global, known: &mut Declared, d: &Declaration) -> Result<(), Failure>
-    ensures { Gives (λ u. known.new) result (declare known.old (declaration d.now)) }
+fn declare_one(
+    dialect: Dialect,
+    alloc: Global,
+    known: &mut Declared,
+    d: &Declaration,
+) -> Result<(), Failure>
+    ensures { Gives (λ u. known.new) result (declare dialect known.old (declaration d.now)) }
 {
     match &d.names {
-        Names::Located(at) => declare_at(alloc, known, d, *at),
-        Names::More(more) => declare_names(alloc, known, d, more.as_slice()),
+        Names::Located(at) => declare_at(dialect, alloc, known, d, *at),
+        Names::More(more) => declare_names(dialect, alloc, known, d, more.as_slice()),
     }
 }
 
 /// The variables and instances of a block, behind those before it.
 pub fn declare_each(
+    dialect: Dialect,
     alloc: Global,
     known: &mut Declared,
     block: &[Declaration],
 ) -> Result<(), Failure>
-    ensures { Gives (λ u. known.new) result (declare_block known.old (declarations block.now)) }
+    ensures { Gives (λ u. known.new) result (declare_block dialect known.old (declarations block.now)) }
 {
     for d in block {
-        declare_one(alloc, known, d)?;
+        declare_one(dialect, alloc, known, d)?;
     }
     Ok(())
 }

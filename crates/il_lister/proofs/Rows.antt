@@ -3,6 +3,7 @@ use Rattle.std.proofs.Common.{◌≡◌, ℕ, List, [], ◌∷◌, ◌++◌, Som
 use Rattle.std.specs.Prelude.{pos, negsuc, codes}
 use Rattle.il_model.specs.declared.value.Ty.TheVariants as types
 use Rattle.il_model.specs.declared.value.Value.TheVariants as values
+use Rattle.il_model.specs.declared.function.Function.TheVariants as functions
 use Rattle.il_model.specs.declared.op.Op.TheVariants as ops
 use Rattle.il_model.specs.declared.program.Area.TheVariants as areas
 use Rattle.il_model.specs.declared.program.Loc.TheVariants.{Bit, Word}
@@ -13,7 +14,7 @@ use Rattle.il_model.specs.declared.program.Argument.{Argument}
 use Rattle.il_model.specs.declared.kind.BlockKind.TheVariants as kinds
 use Rattle.il_model.specs.Program.{Program}
 use Rattle.il_model.specs.Words.{plain}
-use Rattle.il_lister.specs.Listing.{listing, literal_text}
+use Rattle.il_lister.specs.Listing.{listing, literal_text, op_name}
 
 abbrev input : List ℕ → Operand → Argument
 input field operand = record { field = field; side = sides.Input; operand = operand }
@@ -55,3 +56,7 @@ copies = refl
 
 literals : literal_text (values.Time (pos 1500)) ++ (literal_text (values.Time (negsuc 4)) ++ literal_text (values.Dint (pos 5))) ≡ codes "T#1500msT#-5msDINT#5"
 literals = refl
+
+-- a function stands alone, in its word
+takes_root : op_name (ops.Apply functions.Sqrt) ≡ codes "SQRT"
+takes_root = refl

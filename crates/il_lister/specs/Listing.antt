@@ -3,10 +3,13 @@ use Rattle.std.specs.Prelude.{ℕ, suc, ◌+◌, ◌==◌, map, ◌/◌, ◌%◌
 use Rattle.std.specs.Prelude.{Option, Some, None, if◌then◌else◌, codes}
 use Rattle.std.specs.List.{flat_map}
 use Rattle.std.specs.Int.Digits.{digits_of}
+use Rattle.il_real.specs.Texts.{real_text}
 use Rattle.il_model.specs.declared.value.Ty.{Ty}
 use Rattle.il_model.specs.declared.value.Ty.TheVariants as types
 use Rattle.il_model.specs.declared.value.Value.{Value}
 use Rattle.il_model.specs.declared.value.Value.TheVariants as values
+use Rattle.il_model.specs.declared.function.Function.{Function}
+use Rattle.il_model.specs.declared.function.Function.TheVariants as functions
 use Rattle.il_model.specs.declared.op.Op.{Op}
 use Rattle.il_model.specs.declared.op.Op.TheVariants as ops
 use Rattle.il_model.specs.declared.op.Modifier.{Modifier}
@@ -27,6 +30,9 @@ use Rattle.il_model.specs.Operators.{is_zero}
 use Rattle.il_model.specs.Kinds.{kind_name}
 use Rattle.il_model.specs.Codes.{is_empty}
 use Rattle.il_model.specs.Program.{Program}
+use Rattle.il_model.specs.declared.codes.Version.{Version}
+use Rattle.il_model.specs.declared.codes.Version.TheVariants as versions
+use Rattle.il_model.specs.Image.{version_of}
 
 -- ---- literals and locations
 
@@ -48,6 +54,7 @@ literal_text (values.Int z) = codes "INT#" ++ number_text z
 literal_text (values.Dint z) = codes "DINT#" ++ number_text z
 literal_text (values.Lint z) = codes "LINT#" ++ number_text z
 literal_text (values.Time z) = codes "T#" ++ (number_text z ++ codes "ms")
+literal_text (values.Real r) = codes "REAL#" ++ real_text r
 
 abbrev pub area_letter : Area → List ℕ
 area_letter areas.Input = codes "I"
@@ -68,12 +75,13 @@ type_name types.Int = codes "INT"
 type_name types.Dint = codes "DINT"
 type_name types.Time = codes "TIME"
 type_name types.Lint = codes "LINT"
+type_name types.Real = codes "REAL"
 
 abbrev pub at_text : Option Loc → List ℕ
 at_text None = []
 at_text (Some loc) = codes " AT " ++ location_text loc
 
--- an initial value is listed where it isn't FALSE, 0 or no time
+-- an initial value is listed where it isn't FALSE, 0, 0.0 or no time
 abbrev pub initial_text : Value → List ℕ
 initial_text v = if is_zero (number_of v) then [] else codes " := " ++ literal_text v
 
@@ -88,6 +96,22 @@ instance_text x = x.name ++ (codes " : " ++ (kind_name x.kind ++ codes ";\n"))
 
 -- ---- instructions
 
+abbrev pub function_name : Function → List ℕ
+function_name functions.IntToReal = codes "INT_TO_REAL"
+function_name functions.DintToReal = codes "DINT_TO_REAL"
+function_name functions.LintToReal = codes "LINT_TO_REAL"
+function_name functions.TimeToReal = codes "TIME_TO_REAL"
+function_name functions.RealToInt = codes "REAL_TO_INT"
+function_name functions.RealToDint = codes "REAL_TO_DINT"
+function_name functions.RealToLint = codes "REAL_TO_LINT"
+function_name functions.RealToTime = codes "REAL_TO_TIME"
+function_name functions.Trunc = codes "TRUNC"
+function_name functions.Abs = codes "ABS"
+function_name functions.Sqrt = codes "SQRT"
+function_name functions.TimeToDint = codes "TIME_TO_DINT"
+function_name functions.DintToTime = codes "DINT_TO_TIME"
+function_name functions.Move = codes "MOVE"
+
 abbrev pub op_name : Op → List ℕ
 op_name ops.Empty = []
 op_name ops.Ld = codes "LD"
@@ -100,6 +124,8 @@ op_name ops.Xor = codes "XOR"
 op_name ops.Not = codes "NOT"
 op_name ops.Add = codes "ADD"
 op_name ops.Sub = codes "SUB"
+op_name ops.Min = codes "MIN"
+op_name ops.Max = codes "MAX"
 op_name ops.Mul = codes "MUL"
 op_name ops.Div = codes "DIV"
 op_name ops.Mod = codes "MOD"
@@ -117,6 +143,7 @@ op_name ops.IntToDint = codes "INT_TO_DINT"
 op_name ops.DintToInt = codes "DINT_TO_INT"
 op_name ops.DintToLint = codes "DINT_TO_LINT"
 op_name ops.LintToDint = codes "LINT_TO_DINT"
+op_name (ops.Apply f) = function_name f
 
 abbrev pub letter : Bool → List ℕ → List ℕ
 letter b text = if b then text else []
@@ -170,7 +197,13 @@ line_text line = label_text line.op line.label ++ (operation_text line ++ codes 
 
 -- ---- the whole
 
+-- a program of the third version is listed as an extended text, which begins with VAR_GLOBAL
+abbrev pub opening : Version → List ℕ
+opening versions.One = codes "VAR\n"
+opening versions.Two = codes "VAR\n"
+opening versions.Three = codes "VAR_GLOBAL\n"
+
 abbrev pub listing : Program → List ℕ
-listing Q = codes "VAR\n"
+listing Q = opening (version_of Q)
     ++ (flat_map variable_text Q.variables
     ++ (flat_map instance_text Q.instances ++ (codes "END_VAR\n" ++ flat_map line_text Q.code)))

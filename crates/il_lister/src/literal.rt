@@ -32,6 +32,11 @@ pub fn write_literal<W: CountedWrite>(writer: &mut W, value: Value) -> Result<()
             write_number(writer, i64::from(milliseconds))?;
             write_text(writer, b"ms")
         }
+        Value::Real(number) => {
+            let text = number.text();
+            write_text(writer, b"REAL#")?;
+            write_text(writer, text.as_str().as_bytes())
+        }
     }
 }
 

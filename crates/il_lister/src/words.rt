@@ -3,12 +3,13 @@
 ghost use Rattle.std.specs.Prelude.{◌≡◌, codes, if◌then◌else◌};
 ghost use Rattle.il_model.specs.Kinds.{kind_name};
 ghost use Rattle.il_model.specs.Codes.{is_empty};
-ghost use Rattle.il_lister.specs.Listing.{truth_text, area_letter, type_name, op_name, side_text, letter};
+ghost use Rattle.il_lister.specs.Listing.{truth_text, area_letter, type_name, function_name, op_name, side_text};
+ghost use Rattle.il_lister.specs.Listing.{letter};
 ghost use Rattle.il_lister.specs.Writing.{Writes};
 
 use crate::fault::ListFault;
 use crate::writing::write_text;
-use il_model::{Area, BlockKind, Op, Side, Ty};
+use il_model::{Area, BlockKind, Function, Op, Side, Ty};
 use io_model::CountedWrite;
 
 /// TRUE or FALSE.
@@ -39,6 +40,7 @@ pub fn write_type<W: CountedWrite>(writer: &mut W, ty: Ty) -> Result<(), ListFau
         Ty::Dint => write_text(writer, b"DINT"),
         Ty::Time => write_text(writer, b"TIME"),
         Ty::Lint => write_text(writer, b"LINT"),
+        Ty::Real => write_text(writer, b"REAL"),
     }
 }
 
@@ -47,6 +49,27 @@ pub fn write_kind<W: CountedWrite>(writer: &mut W, kind: BlockKind) -> Result<()
     ensures { Writes W.CountedWrite (kind_name kind) writer.old writer.new result }
 {
     write_text(writer, kind.name())
+}
+
+fn function_name(function: Function) -> &'static [u8]
+    ensures { result.now ≡ function_name function }
+{
+    match function {
+        Function::IntToReal => b"INT_TO_REAL",
+        Function::DintToReal => b"DINT_TO_REAL",
+        Function::LintToReal => b"LINT_TO_REAL",
+        Function::TimeToReal => b"TIME_TO_REAL",
+        Function::RealToInt => b"REAL_TO_INT",
+        Function::RealToDint => b"REAL_TO_DINT",
+        Function::RealToLint => b"REAL_TO_LINT",
+        Function::RealToTime => b"REAL_TO_TIME",
+        Function::Trunc => b"TRUNC",
+        Function::Abs => b"ABS",
+        Function::Sqrt => b"SQRT",
+        Function::TimeToDint => b"TIME_TO_DINT",
+        Function::DintToTime => b"DINT_TO_TIME",
+        Function::Move => b"MOVE",
+    }
 }
 
 fn op_name(op: Op) -> &'static [u8]
@@ -64,6 +87,8 @@ fn op_name(op: Op) -> &'static [u8]
         Op::Not => b"NOT",
         Op::Add => b"ADD",
         Op::Sub => b"SUB",
+        Op::Min => b"MIN",
+        Op::Max => b"MAX",
         Op::Mul => b"MUL",
         Op::Div => b"DIV",
         Op::Mod => b"MOD",
@@ -81,6 +106,7 @@ fn op_name(op: Op) -> &'static [u8]
         Op::DintToInt => b"DINT_TO_INT",
         Op::DintToLint => b"DINT_TO_LINT",
         Op::LintToDint => b"LINT_TO_DINT",
+        Op::Apply(function) => function_name(function),
     }
 }
 

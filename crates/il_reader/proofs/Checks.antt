@@ -1,6 +1,7 @@
 -- A fault stands at the first token such that nothing that is read begins so: once for each way of putting readings together.
 use Rattle.std.proofs.Common.{◌≡◌, ℕ, zero, suc, length, Bool, true, false, not, cond, List, [], ◌∷◌, ◌++◌, Result, Ok, Err, refl, sym, ap, ◌∙◌, arith, ◌<◌, ◌≤◌}
 use Rattle.std.specs.List.{AllByRecursion}
+use Rattle.il_model.specs.declared.dialect.Dialect.{Dialect}
 use Rattle.il_reader.specs.declared.fault.FaultAt.{FaultAt}
 use Rattle.il_reader.specs.declared.lexeme.Sign.TheVariants as signs
 use Rattle.il_reader.specs.Tokens.{Token, goes_on, tokens_of}
@@ -32,34 +33,34 @@ abbrev pub GoesOn : Token → Type 0
 GoesOn t = goes_on t.class ≡ true
 
 -- The fault stands where no list that is read begins so, however it goes on, while a text can follow what is before.
-pub record FirstAt (m : Check) (ts : List Token) (f : FaultAt) : Type 0 where
+pub record FirstAt (dialect : Dialect) (m : Check) (ts : List Token) (f : FaultAt) : Type 0 where
   pub before : List Token
   pub rest : List Token
   pub parts : before ++ rest ≡ ts
   pub fault : f ≡ fault_at (first rest)
   pub inner : AllByRecursion GoesOn before
   pub more : List ℕ
-  pub completes : m (before ++ tokens_of more) ≡ good
+  pub completes : m (before ++ tokens_of dialect more) ≡ good
   pub never : (us : List Token) → m (before ++ first rest ∷ us) ≡ bad f
 
 -- each fault in a list of fewer tokens stands so
-abbrev pub Below : ℕ → Check → Type 0
-Below n m = (ts : List Token) (f : FaultAt) → length ts < n → m ts ≡ bad f → FirstAt m ts f
+abbrev pub Below : (dialect : Dialect) → ℕ → Check → Type 0
+Below dialect n m = (ts : List Token) (f : FaultAt) → length ts < n → m ts ≡ bad f → FirstAt dialect m ts f
 
 -- some text is read
-abbrev pub ReadsSome : Check → Type 0
-ReadsSome m = (text : List ℕ) × (m (tokens_of text) ≡ good)
+abbrev pub ReadsSome : (dialect : Dialect) → Check → Type 0
+ReadsSome dialect m = (text : List ℕ) × (m (tokens_of dialect text) ≡ good)
 
-pub record Exact (n : ℕ) (m : Check) : Type 0 where
-  pub placed : Below n m
-  pub some : ReadsSome m
+pub record Exact (dialect : Dialect) (n : ℕ) (m : Check) : Type 0 where
+  pub placed : Below dialect n m
+  pub some : ReadsSome dialect m
 
 pub fault_is : (f g : FaultAt) → bad f ≡ bad g → f ≡ g
 fault_is f g e = cc
 
 -- a fault at the token that stands next
-pub here : (m : Check) (ts : List Token) (f : FaultAt) → bad (fault_at (first ts)) ≡ bad f → ReadsSome m → ((us : List Token) → m (first ts ∷ us) ≡ bad (fault_at (first ts))) → FirstAt m ts f
-here m ts f is some never = record {
+pub here : (dialect : Dialect) → (m : Check) (ts : List Token) (f : FaultAt) → bad (fault_at (first ts)) ≡ bad f → ReadsSome dialect m → ((us : List Token) → m (first ts ∷ us) ≡ bad (fault_at (first ts))) → FirstAt dialect m ts f
+here dialect m ts f is some never = record {
   before = [];
   rest = ts;
   parts = refl;
@@ -71,23 +72,23 @@ here m ts f is some never = record {
 }
 
 -- a fault behind a token that is taken
-pub farther : (m k : Check) (t : Token) (ts : List Token) (f : FaultAt) → GoesOn t → ((us : List Token) → m (t ∷ us) ≡ k us) → FirstAt k ts f → FirstAt m (t ∷ ts) f
-farther m k t ts f goes same h = record {
+pub farther : (dialect : Dialect) → (m k : Check) (t : Token) (ts : List Token) (f : FaultAt) → GoesOn t → ((us : List Token) → m (t ∷ us) ≡ k us) → FirstAt dialect k ts f → FirstAt dialect m (t ∷ ts) f
+farther dialect m k t ts f goes same h = record {
   before = t ∷ h.before;
   rest = h.rest;
   parts = ap (λ (us : List Token). t ∷ us) h.parts;
   fault = h.fault;
   inner = (goes, h.inner);
   more = h.more;
-  completes = same (h.before ++ tokens_of h.more) ∙ h.completes;
+  completes = same (h.before ++ tokens_of dialect h.more) ∙ h.completes;
   never = λ us. same (h.before ++ first h.rest ∷ us) ∙ h.never us;
 }
 
 -- checks that are the same where this token stands next
-pub same_first : (m a : Check) (ts : List Token) (f : FaultAt) → ((us : List Token) → first us ≡ first ts → m us ≡ a us) → ReadsSome m → FirstAt a ts f → FirstAt m ts f
-same_first m a ts f same some h = by_front h.before h.rest h.more h.parts h.fault h.inner h.completes h.never
+pub same_first : (dialect : Dialect) → (m a : Check) (ts : List Token) (f : FaultAt) → ((us : List Token) → first us ≡ first ts → m us ≡ a us) → ReadsSome dialect m → FirstAt dialect a ts f → FirstAt dialect m ts f
+same_first dialect m a ts f same some h = by_front h.before h.rest h.more h.parts h.fault h.inner h.completes h.never
   where
-    by_front : (before rest : List Token) (more : List ℕ) → before ++ rest ≡ ts → f ≡ fault_at (first rest) → AllByRecursion GoesOn before → a (before ++ tokens_of more) ≡ good → ((us : List Token) → a (before ++ first rest ∷ us) ≡ bad f) → FirstAt m ts f
+    by_front : (before rest : List Token) (more : List ℕ) → before ++ rest ≡ ts → f ≡ fault_at (first rest) → AllByRecursion GoesOn before → a (before ++ tokens_of dialect more) ≡ good → ((us : List Token) → a (before ++ first rest ∷ us) ≡ bad f) → FirstAt dialect m ts f
     by_front [] rest more parts fault inner completes never = record {
       before = [];
       rest = rest;
@@ -105,13 +106,13 @@ same_first m a ts f same some h = by_front h.before h.rest h.more h.parts h.faul
       fault = fault;
       inner = inner;
       more = more;
-      completes = same (t ∷ before ++ tokens_of more) (ap first parts) ∙ completes;
+      completes = same (t ∷ before ++ tokens_of dialect more) (ap first parts) ∙ completes;
       never = λ us. same (t ∷ before ++ first rest ∷ us) (ap first parts) ∙ never us;
     }
 
 -- checks that are the same
-pub same_below : (m a : Check) (n : ℕ) → ((ts : List Token) → m ts ≡ a ts) → Below n a → Below n m
-same_below m a n same b ts f lt h =
+pub same_below : (dialect : Dialect) → (m a : Check) (n : ℕ) → ((ts : List Token) → m ts ≡ a ts) → Below dialect n a → Below dialect n m
+same_below dialect m a n same b ts f lt h =
     let g = b ts f lt (sym (same ts) ∙ h) in
     record {
       before = g.before;
@@ -120,61 +121,61 @@ same_below m a n same b ts f lt h =
       fault = g.fault;
       inner = g.inner;
       more = g.more;
-      completes = same (g.before ++ tokens_of g.more) ∙ g.completes;
+      completes = same (g.before ++ tokens_of dialect g.more) ∙ g.completes;
       never = λ us. same (g.before ++ first g.rest ∷ us) ∙ g.never us;
     }
 
-pub same_exact : (m a : Check) (n : ℕ) → ((ts : List Token) → m ts ≡ a ts) → Exact n a → Exact n m
-same_exact m a n same e = record { placed = same_below m a n same e.placed; some = (e.some.0, same (tokens_of e.some.0) ∙ e.some.1) }
+pub same_exact : (dialect : Dialect) → (m a : Check) (n : ℕ) → ((ts : List Token) → m ts ≡ a ts) → Exact dialect n a → Exact dialect n m
+same_exact dialect m a n same e = record { placed = same_below dialect m a n same e.placed; some = (e.some.0, same (tokens_of dialect e.some.0) ∙ e.some.1) }
 
-pub fewer_below : (m : Check) (n p : ℕ) → n ≤ p → Below p m → Below n m
-fewer_below m n p le b ts f lt h = b ts f (omega (arith, lt, le)) h
+pub fewer_below : (dialect : Dialect) → (m : Check) (n p : ℕ) → n ≤ p → Below dialect p m → Below dialect n m
+fewer_below dialect m n p le b ts f lt h = b ts f (omega (arith, lt, le)) h
 
-pub fewer : (m : Check) (n : ℕ) → Exact (suc n) m → Exact n m
-fewer m n e = record { placed = fewer_below m n (suc n) (omega arith) e.placed; some = e.some }
+pub fewer : (dialect : Dialect) → (m : Check) (n : ℕ) → Exact dialect (suc n) m → Exact dialect n m
+fewer dialect m n e = record { placed = fewer_below dialect m n (suc n) (omega arith) e.placed; some = e.some }
 
 -- a token that passes
-pub taken_exact : {X : Type 0} (p : Token → Bool) (g : Token → X) → Written p → p no_token ≡ false → (n : ℕ) (k : Check) → Exact n k → Exact (suc n) (followed (taken p g) k)
-taken_exact {X} p g w none n k e = record { placed = placed; some = some }
+pub taken_exact : (dialect : Dialect) → {X : Type 0} (p : Token → Bool) (g : Token → X) → Written dialect p → p no_token ≡ false → (n : ℕ) (k : Check) → Exact dialect n k → Exact dialect (suc n) (followed (taken p g) k)
+taken_exact dialect {X} p g w none n k e = record { placed = placed; some = some }
   where
-    some : ReadsSome (followed (taken p g) k)
+    some : ReadsSome dialect (followed (taken p g) k)
     some = (written w.word e.some.0, rw (w.makes e.some.0, w.passes e.some.0) e.some.1)
 
-    by_test : (u : Token) (us : List Token) (f : FaultAt) → length us < n → (b : Bool) → p u ≡ b → (cond b (leaving (g u) us) (Err (fault_at u)) >>= λ x. k x.1) ≡ bad f → FirstAt (followed (taken p g) k) (u ∷ us) f
-    by_test u us f lt true at h = farther (followed (taken p g) k) k u us f (w.goes u at) (λ vs. rw at refl) (e.placed us f lt h)
-    by_test u us f lt false at h = here (followed (taken p g) k) (u ∷ us) f h some (λ vs. rw at refl)
+    by_test : (u : Token) (us : List Token) (f : FaultAt) → length us < n → (b : Bool) → p u ≡ b → (cond b (leaving (g u) us) (Err (fault_at u)) >>= λ x. k x.1) ≡ bad f → FirstAt dialect (followed (taken p g) k) (u ∷ us) f
+    by_test u us f lt true at h = farther dialect (followed (taken p g) k) k u us f (w.goes u at) (λ vs. rw at refl) (e.placed us f lt h)
+    by_test u us f lt false at h = here dialect (followed (taken p g) k) (u ∷ us) f h some (λ vs. rw at refl)
 
-    placed : Below (suc n) (followed (taken p g) k)
-    placed [] f lt h = here (followed (taken p g) k) [] f (rw none at h) some (λ vs. rw none refl)
+    placed : Below dialect (suc n) (followed (taken p g) k)
+    placed [] f lt h = here dialect (followed (taken p g) k) [] f (rw none at h) some (λ vs. rw none refl)
     placed (u ∷ us) f lt h = by_test u us f (omega (arith, lt)) (p u) refl h
 
 -- by the token that stands next, the one or the other
 abbrev pub chosen_by : (Token → Bool) → Check → Check → Check
 chosen_by q a b ts = cond (q (first ts)) (a ts) (b ts)
 
-pub choice_below : (q : Token → Bool) (a b : Check) (n : ℕ) → Below n a → Below n b → ReadsSome (chosen_by q a b) → Below n (chosen_by q a b)
-choice_below q a b n on off some ts f lt h = by_test (q (first ts)) refl h
+pub choice_below : (dialect : Dialect) → (q : Token → Bool) (a b : Check) (n : ℕ) → Below dialect n a → Below dialect n b → ReadsSome dialect (chosen_by q a b) → Below dialect n (chosen_by q a b)
+choice_below dialect q a b n on off some ts f lt h = by_test (q (first ts)) refl h
   where
-    by_test : (c : Bool) → q (first ts) ≡ c → cond c (a ts) (b ts) ≡ bad f → FirstAt (chosen_by q a b) ts f
-    by_test true is h = same_first (chosen_by q a b) a ts f (λ us e. rw (e, is) refl) some (on ts f lt h)
-    by_test false is h = same_first (chosen_by q a b) b ts f (λ us e. rw (e, is) refl) some (off ts f lt h)
+    by_test : (c : Bool) → q (first ts) ≡ c → cond c (a ts) (b ts) ≡ bad f → FirstAt dialect (chosen_by q a b) ts f
+    by_test true is h = same_first dialect (chosen_by q a b) a ts f (λ us e. rw (e, is) refl) some (on ts f lt h)
+    by_test false is h = same_first dialect (chosen_by q a b) b ts f (λ us e. rw (e, is) refl) some (off ts f lt h)
 
-pub choice_exact : (q : Token → Bool) (a b : Check) (n : ℕ) → Below n a → Below n b → ReadsSome (chosen_by q a b) → Exact n (chosen_by q a b)
-choice_exact q a b n on off some = record { placed = choice_below q a b n on off some; some = some }
+pub choice_exact : (dialect : Dialect) → (q : Token → Bool) (a b : Check) (n : ℕ) → Below dialect n a → Below dialect n b → ReadsSome dialect (chosen_by q a b) → Exact dialect n (chosen_by q a b)
+choice_exact dialect q a b n on off some = record { placed = choice_below dialect q a b n on off some; some = some }
 
 -- nothing is taken, where such a token stands next
 abbrev pub standing : (Token → Bool) → Check → Check
 standing q k ts = cond (q (first ts)) (k ts) (bad (fault_at (first ts)))
 
-pub standing_exact : (q : Token → Bool) (k : Check) (n : ℕ) → Below n k → ReadsSome (standing q k) → Exact n (standing q k)
-standing_exact q k n b some = record { placed = placed; some = some }
+pub standing_exact : (dialect : Dialect) → (q : Token → Bool) (k : Check) (n : ℕ) → Below dialect n k → ReadsSome dialect (standing q k) → Exact dialect n (standing q k)
+standing_exact dialect q k n b some = record { placed = placed; some = some }
   where
-    placed : Below n (standing q k)
+    placed : Below dialect n (standing q k)
     placed ts f lt h = by_test (q (first ts)) refl h
       where
-        by_test : (c : Bool) → q (first ts) ≡ c → cond c (k ts) (bad (fault_at (first ts))) ≡ bad f → FirstAt (standing q k) ts f
-        by_test true is h = same_first (standing q k) k ts f (λ us e. rw (e, is) refl) some (b ts f lt h)
-        by_test false is h = here (standing q k) ts f h some (λ us. rw is refl)
+        by_test : (c : Bool) → q (first ts) ≡ c → cond c (k ts) (bad (fault_at (first ts))) ≡ bad f → FirstAt dialect (standing q k) ts f
+        by_test true is h = same_first dialect (standing q k) k ts f (λ us e. rw (e, is) refl) some (b ts f lt h)
+        by_test false is h = here dialect (standing q k) ts f h some (λ us. rw is refl)
 
 -- behind any number of line ends
 abbrev pub behind_breaks : Check → Check
@@ -194,25 +195,25 @@ skips_once (u ∷ us) = by_test (is_sign signs.Break u) refl (skips_once us)
     by_test true is h = h
     by_test false is h = rw is refl
 
-pub past_below : (m : Check) (n : ℕ) → Below n m → ReadsSome (behind_breaks m) → Below n (behind_breaks m)
+pub past_below : (dialect : Dialect) → (m : Check) (n : ℕ) → Below dialect n m → ReadsSome dialect (behind_breaks m) → Below dialect n (behind_breaks m)
 unfolding skip_breaks
-past_below m n b some [] f lt h = same_first (behind_breaks m) m [] f (λ us e. ap m (no_break us (ap (λ (t : Token). is_sign signs.Break t) e))) some (b [] f lt h)
-past_below m n b some (t ∷ ts) f lt h = by_test (is_sign signs.Break t) refl h (past_below m n b some ts f (omega (arith, lt)))
+past_below dialect m n b some [] f lt h = same_first dialect (behind_breaks m) m [] f (λ us e. ap m (no_break us (ap (λ (t : Token). is_sign signs.Break t) e))) some (b [] f lt h)
+past_below dialect m n b some (t ∷ ts) f lt h = by_test (is_sign signs.Break t) refl h (past_below dialect m n b some ts f (omega (arith, lt)))
   where
     by_test : (c : Bool) → is_sign signs.Break t ≡ c → m (cond c (skip_breaks ts) (t ∷ ts)) ≡ bad f
-        → (m (skip_breaks ts) ≡ bad f → FirstAt (behind_breaks m) ts f)
-        → FirstAt (behind_breaks m) (t ∷ ts) f
-    by_test true is h more = farther (behind_breaks m) (behind_breaks m) t ts f (sign_goes signs.Break t is) (λ us. rw is refl) (more h)
-    by_test false is h more = same_first (behind_breaks m) m (t ∷ ts) f (λ us e. ap m (no_break us (ap (λ (u : Token). is_sign signs.Break u) e ∙ is))) some (b (t ∷ ts) f lt h)
+        → (m (skip_breaks ts) ≡ bad f → FirstAt dialect (behind_breaks m) ts f)
+        → FirstAt dialect (behind_breaks m) (t ∷ ts) f
+    by_test true is h more = farther dialect (behind_breaks m) (behind_breaks m) t ts f (sign_goes signs.Break t is) (λ us. rw is refl) (more h)
+    by_test false is h more = same_first dialect (behind_breaks m) m (t ∷ ts) f (λ us e. ap m (no_break us (ap (λ (u : Token). is_sign signs.Break u) e ∙ is))) some (b (t ∷ ts) f lt h)
 
 -- behind line ends, where something that is read begins with none
-pub past_exact : (m : Check) (n : ℕ) → Below n m → (text : List ℕ) → is_sign signs.Break (first (tokens_of text)) ≡ false → m (tokens_of text) ≡ good → Exact n (behind_breaks m)
-past_exact m n b text solid reads =
-    let some : ReadsSome (behind_breaks m) = (text, ap m (no_break (tokens_of text) solid) ∙ reads) in
-    record { placed = past_below m n b some; some = some }
+pub past_exact : (dialect : Dialect) → (m : Check) (n : ℕ) → Below dialect n m → (text : List ℕ) → is_sign signs.Break (first (tokens_of dialect text)) ≡ false → m (tokens_of dialect text) ≡ good → Exact dialect n (behind_breaks m)
+past_exact dialect m n b text solid reads =
+    let some : ReadsSome dialect (behind_breaks m) = (text, ap m (no_break (tokens_of dialect text) solid) ∙ reads) in
+    record { placed = past_below dialect m n b some; some = some }
 
-pub past_taken_exact : {X : Type 0} (p : Token → Bool) (g : Token → X) → Written p → p no_token ≡ false → (n : ℕ) (k : Check) → Exact n k → Exact (suc n) (behind_breaks (followed (taken p g) k))
-past_taken_exact p g w none n k e = past_exact (followed (taken p g) k) (suc n) (taken_exact p g w none n k e).placed (written w.word e.some.0) (rw (w.makes e.some.0) (w.solid e.some.0)) (rw (w.makes e.some.0, w.passes e.some.0) e.some.1)
+pub past_taken_exact : (dialect : Dialect) → {X : Type 0} (p : Token → Bool) (g : Token → X) → Written dialect p → p no_token ≡ false → (n : ℕ) (k : Check) → Exact dialect n k → Exact dialect (suc n) (behind_breaks (followed (taken p g) k))
+past_taken_exact dialect p g w none n k e = past_exact dialect (followed (taken p g) k) (suc n) (taken_exact dialect p g w none n k e).placed (written w.word e.some.0) (rw (w.makes e.some.0) (w.solid e.some.0)) (rw (w.makes e.some.0, w.passes e.some.0) e.some.1)
 
 -- one reading after the other
 
@@ -247,20 +248,20 @@ closed_tail (Err f) m k = refl
 pub closed_same : {X : Type 0} (a : Reading X) (m : Reading (Unit {0})) (k : Check) (ts : List Token) → followed (closed a m) k ts ≡ followed a (followed m k) ts
 closed_same a m k ts = closed_tail (a ts) m k
 
-pub mapped_exact : {X Y : Type 0} (g : X → Y) (a : Reading X) (n : ℕ) (k : Check) → Exact n (followed a k) → Exact n (followed (mapped g a) k)
-mapped_exact g a n k e = same_exact (followed (mapped g a) k) (followed a k) n (mapped_same g a k) e
+pub mapped_exact : (dialect : Dialect) → {X Y : Type 0} (g : X → Y) (a : Reading X) (n : ℕ) (k : Check) → Exact dialect n (followed a k) → Exact dialect n (followed (mapped g a) k)
+mapped_exact dialect g a n k e = same_exact dialect (followed (mapped g a) k) (followed a k) n (mapped_same g a k) e
 
-pub mark_exact : {X : Type 0} (a : Reading X) (n : ℕ) (k : Check) → Exact n (followed a k) → Exact n (followed (mark a) k)
-mark_exact a n k e = same_exact (followed (mark a) k) (followed a k) n (mark_same a k) e
+pub mark_exact : (dialect : Dialect) → {X : Type 0} (a : Reading X) (n : ℕ) (k : Check) → Exact dialect n (followed a k) → Exact dialect n (followed (mark a) k)
+mark_exact dialect a n k e = same_exact dialect (followed (mark a) k) (followed a k) n (mark_same a k) e
 
-pub pair_exact : {X Y : Type 0} (a : Reading X) (b : Reading Y) (n : ℕ) (k : Check) → Exact n (followed a (followed b k)) → Exact n (followed (pair a b) k)
-pair_exact a b n k e = same_exact (followed (pair a b) k) (followed a (followed b k)) n (pair_same a b k) e
+pub pair_exact : (dialect : Dialect) → {X Y : Type 0} (a : Reading X) (b : Reading Y) (n : ℕ) (k : Check) → Exact dialect n (followed a (followed b k)) → Exact dialect n (followed (pair a b) k)
+pair_exact dialect a b n k e = same_exact dialect (followed (pair a b) k) (followed a (followed b k)) n (pair_same a b k) e
 
-pub led_exact : {X : Type 0} (m : Reading (Unit {0})) (a : Reading X) (n : ℕ) (k : Check) → Exact n (followed m (followed a k)) → Exact n (followed (led m a) k)
-led_exact m a n k e = same_exact (followed (led m a) k) (followed m (followed a k)) n (led_same m a k) e
+pub led_exact : (dialect : Dialect) → {X : Type 0} (m : Reading (Unit {0})) (a : Reading X) (n : ℕ) (k : Check) → Exact dialect n (followed m (followed a k)) → Exact dialect n (followed (led m a) k)
+led_exact dialect m a n k e = same_exact dialect (followed (led m a) k) (followed m (followed a k)) n (led_same m a k) e
 
-pub closed_exact : {X : Type 0} (a : Reading X) (m : Reading (Unit {0})) (n : ℕ) (k : Check) → Exact n (followed a (followed m k)) → Exact n (followed (closed a m) k)
-closed_exact a m n k e = same_exact (followed (closed a m) k) (followed a (followed m k)) n (closed_same a m k) e
+pub closed_exact : (dialect : Dialect) → {X : Type 0} (a : Reading X) (m : Reading (Unit {0})) (n : ℕ) (k : Check) → Exact dialect n (followed a (followed m k)) → Exact dialect n (followed (closed a m) k)
+closed_exact dialect a m n k e = same_exact dialect (followed (closed a m) k) (followed a (followed m k)) n (closed_same a m k) e
 
 -- the one or the other, by what stands next
 
@@ -300,24 +301,24 @@ next q ts = q (first ts)
 abbrev pub next_not : (Token → Bool) → List Token → Bool
 next_not q ts = not (q (first ts))
 
-pub either_exact : {X : Type 0} (q : Token → Bool) (a b : Reading X) (n : ℕ) (k : Check) → Below n (followed a k) → Below n (followed b k)
-    → (text : List ℕ) → cond (q (first (tokens_of text))) (followed a k (tokens_of text)) (followed b k (tokens_of text)) ≡ good → Exact n (followed (choice (next q) a b) k)
-either_exact q a b n k on off text reads = same_exact (followed (choice (next q) a b) k) (chosen_by q (followed a k) (followed b k)) n (choice_same (next q) a b k)
-    (choice_exact q (followed a k) (followed b k) n on off (text, reads))
+pub either_exact : (dialect : Dialect) → {X : Type 0} (q : Token → Bool) (a b : Reading X) (n : ℕ) (k : Check) → Below dialect n (followed a k) → Below dialect n (followed b k)
+    → (text : List ℕ) → cond (q (first (tokens_of dialect text))) (followed a k (tokens_of dialect text)) (followed b k (tokens_of dialect text)) ≡ good → Exact dialect n (followed (choice (next q) a b) k)
+either_exact dialect q a b n k on off text reads = same_exact dialect (followed (choice (next q) a b) k) (chosen_by q (followed a k) (followed b k)) n (choice_same (next q) a b k)
+    (choice_exact dialect q (followed a k) (followed b k) n on off (text, reads))
 
-pub option_exact : {X : Type 0} (q : Token → Bool) (a : Reading X) (x : X) (n : ℕ) (k : Check) → Below n k → Below n (followed a k)
-    → (text : List ℕ) → cond (q (first (tokens_of text))) (followed a k (tokens_of text)) (k (tokens_of text)) ≡ good → Exact n (followed (choice (next q) a (stand (next_not q) x)) k)
-option_exact q a x n k off on text reads = same_exact (followed (choice (next q) a (stand (next_not q) x)) k) (chosen_by q (followed a k) k) n (option_same (next q) a x k)
-    (choice_exact q (followed a k) k n on off (text, reads))
+pub option_exact : (dialect : Dialect) → {X : Type 0} (q : Token → Bool) (a : Reading X) (x : X) (n : ℕ) (k : Check) → Below dialect n k → Below dialect n (followed a k)
+    → (text : List ℕ) → cond (q (first (tokens_of dialect text))) (followed a k (tokens_of dialect text)) (k (tokens_of dialect text)) ≡ good → Exact dialect n (followed (choice (next q) a (stand (next_not q) x)) k)
+option_exact dialect q a x n k off on text reads = same_exact dialect (followed (choice (next q) a (stand (next_not q) x)) k) (chosen_by q (followed a k) k) n (option_same (next q) a x k)
+    (choice_exact dialect q (followed a k) k n on off (text, reads))
 
-pub stop_exact : {X : Type 0} (q : Token → Bool) (x : X) (b : Reading X) (n : ℕ) (k : Check) → Below n k → Below n (followed b k)
-    → (text : List ℕ) → cond (q (first (tokens_of text))) (k (tokens_of text)) (followed b k (tokens_of text)) ≡ good → Exact n (followed (choice (next q) (stand (next q) x) b) k)
-stop_exact q x b n k on off text reads = same_exact (followed (choice (next q) (stand (next q) x) b) k) (chosen_by q k (followed b k)) n (stop_same (next q) x b k)
-    (choice_exact q k (followed b k) n on off (text, reads))
+pub stop_exact : (dialect : Dialect) → {X : Type 0} (q : Token → Bool) (x : X) (b : Reading X) (n : ℕ) (k : Check) → Below dialect n k → Below dialect n (followed b k)
+    → (text : List ℕ) → cond (q (first (tokens_of dialect text))) (k (tokens_of dialect text)) (followed b k (tokens_of dialect text)) ≡ good → Exact dialect n (followed (choice (next q) (stand (next q) x) b) k)
+stop_exact dialect q x b n k on off text reads = same_exact dialect (followed (choice (next q) (stand (next q) x) b) k) (chosen_by q k (followed b k)) n (stop_same (next q) x b k)
+    (choice_exact dialect q k (followed b k) n on off (text, reads))
 
-pub stand_exact : {X : Type 0} (q : Token → Bool) (x : X) (n : ℕ) (k : Check) → Below n k
-    → (text : List ℕ) → q (first (tokens_of text)) ≡ true → k (tokens_of text) ≡ good → Exact n (followed (stand (next q) x) k)
-stand_exact q x n k b text is reads = same_exact (followed (stand (next q) x) k) (standing q k) n (stand_same (next q) x k) (standing_exact q k n b (text, rw is reads))
+pub stand_exact : (dialect : Dialect) → {X : Type 0} (q : Token → Bool) (x : X) (n : ℕ) (k : Check) → Below dialect n k
+    → (text : List ℕ) → q (first (tokens_of dialect text)) ≡ true → k (tokens_of dialect text) ≡ good → Exact dialect n (followed (stand (next q) x) k)
+stand_exact dialect q x n k b text is reads = same_exact dialect (followed (stand (next q) x) k) (standing q k) n (stand_same (next q) x k) (standing_exact dialect q k n b (text, rw is reads))
 
 -- as many as there are
 
@@ -374,30 +375,30 @@ pub list_blind : {X : Type 0} (q : Token → Bool) (stops : List Token → Bool)
 list_blind q stops solid item k l blind ts = list_same q stops solid item k l blind ts ∙ sym (list_same q stops solid item k l blind (skip_breaks ts) ∙ ap (turn q solid k (followed (many stops item) k)) (skips_once ts))
 
 -- what the rest reads where the list stops
-pub record Stopped (q : Token → Bool) (k : Check) : Type 0 where
+pub record Stopped (dialect : Dialect) (q : Token → Bool) (k : Check) : Type 0 where
   pub text : List ℕ
-  pub stop : q (first (tokens_of text)) ≡ true
-  pub solid : is_sign signs.Break (first (tokens_of text)) ≡ false
-  pub reads : k (tokens_of text) ≡ good
+  pub stop : q (first (tokens_of dialect text)) ≡ true
+  pub solid : is_sign signs.Break (first (tokens_of dialect text)) ≡ false
+  pub reads : k (tokens_of dialect text) ≡ good
 
-pub list_some : {X : Type 0} (q : Token → Bool) (stops : List Token → Bool) (solid item : Reading X) (k : Check) → Listed q stops solid item → Blind k → (s : Stopped q k) → followed (many stops item) k (tokens_of s.text) ≡ good
-list_some q stops solid item k l blind s = list_same q stops solid item k l blind (tokens_of s.text) ∙ rw (no_break (tokens_of s.text) s.solid, s.stop) s.reads
+pub list_some : (dialect : Dialect) → {X : Type 0} (q : Token → Bool) (stops : List Token → Bool) (solid item : Reading X) (k : Check) → Listed q stops solid item → Blind k → (s : Stopped dialect q k) → followed (many stops item) k (tokens_of dialect s.text) ≡ good
+list_some dialect q stops solid item k l blind s = list_same q stops solid item k l blind (tokens_of dialect s.text) ∙ rw (no_break (tokens_of dialect s.text) s.solid, s.stop) s.reads
 
-pub list_exact : {X : Type 0} (q : Token → Bool) (stops : List Token → Bool) (solid item : Reading X) (n : ℕ) (k : Check)
-    → Listed q stops solid item → Blind k → Stopped q k → Below n k
-    → ((p : ℕ) → Exact p (followed (many stops item) k) → Below (suc p) (followed solid (followed (many stops item) k)))
-    → Exact n (followed (many stops item) k)
-list_exact {X} q stops solid item n k l blind s b step = record { placed = climb n (omega arith); some = some }
+pub list_exact : (dialect : Dialect) → {X : Type 0} (q : Token → Bool) (stops : List Token → Bool) (solid item : Reading X) (n : ℕ) (k : Check)
+    → Listed q stops solid item → Blind k → Stopped dialect q k → Below dialect n k
+    → ((p : ℕ) → Exact dialect p (followed (many stops item) k) → Below dialect (suc p) (followed solid (followed (many stops item) k)))
+    → Exact dialect n (followed (many stops item) k)
+list_exact dialect {X} q stops solid item n k l blind s b step = record { placed = climb n (omega arith); some = some }
   where
-    some : ReadsSome (followed (many stops item) k)
-    some = (s.text, list_some q stops solid item k l blind s)
+    some : ReadsSome dialect (followed (many stops item) k)
+    some = (s.text, list_some dialect q stops solid item k l blind s)
 
-    climb : (p : ℕ) → p ≤ n → Below p (followed (many stops item) k)
+    climb : (p : ℕ) → p ≤ n → Below dialect p (followed (many stops item) k)
     climb zero le = λ ts f lt h. absurd (omega (arith, lt))
     climb (suc p) le =
         let m = followed (many stops item) k in
         let body = turn q solid k m in
-        let here : ReadsSome body = (s.text, rw s.stop s.reads) in
-        let below = choice_below q k (followed solid m) (suc p) (fewer_below k (suc p) n le b) (step p (record { placed = climb p (omega (arith, le)); some = some })) here in
-        let behind : ReadsSome (behind_breaks body) = (s.text, rw (no_break (tokens_of s.text) s.solid) here.1) in
-        same_below m (behind_breaks body) (suc p) (list_same q stops solid item k l blind) (past_below body (suc p) below behind)
+        let here : ReadsSome dialect body = (s.text, rw s.stop s.reads) in
+        let below = choice_below dialect q k (followed solid m) (suc p) (fewer_below dialect k (suc p) n le b) (step p (record { placed = climb p (omega (arith, le)); some = some })) here in
+        let behind : ReadsSome dialect (behind_breaks body) = (s.text, rw (no_break (tokens_of dialect s.text) s.solid) here.1) in
+        same_below dialect m (behind_breaks body) (suc p) (list_same q stops solid item k l blind) (past_below dialect body (suc p) below behind)

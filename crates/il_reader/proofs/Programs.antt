@@ -1,6 +1,7 @@
 -- The laws of each part of the grammar.
 use Rattle.std.proofs.Common.{◌≡◌, ℕ, length, ◌<◌, Bool, true, false, cond, List, [], ◌∷◌, ◌++◌, Option, Some, None, Result, Ok, refl, sym, ap, subst, ◌∙◌, arith, codes, inl, inr, ◌⊎◌, ◌&&◌, ◌||◌}
 use Rattle.std.specs.List.{flat_map}
+use Rattle.il_model.specs.declared.dialect.Dialect.{Dialect}
 use Rattle.il_reader.specs.declared.fault.FaultAt.{FaultAt}
 use Rattle.il_reader.specs.declared.lexeme.Sign.{Sign}
 use Rattle.il_reader.specs.declared.lexeme.Sign.TheVariants as signs
@@ -14,7 +15,7 @@ use Rattle.il_reader.specs.declared.operations.Form.TheVariants as forms
 use Rattle.il_reader.specs.Tokens.{Token}
 use Rattle.il_reader.specs.Front.{same_sign, is_class_of, is_sign, is_end_class, first, skip_breaks, next_is, at_end, is_word_token, next_is_word}
 use Rattle.il_reader.specs.Reading.{◌>>=◌, Reading, expect, both, pair, choice, mapped, mark, stand, many, closed, keyword}
-use Rattle.il_reader.specs.Grammar.{OperandText, Constant, Direct, Named, Field, ArgumentText, CallText, BehindText, Nothing, Given, Target, Opened, Called, no_dot, before_dot, before_no_dot, ends_arguments, before_close, no_open, OperationText, LineText, Labelled, Plain, NamesText, Located, More, DeclarationText, ProgramText, is_truth, is_variable, is_constant, form_of, operator_of, is_line_stop, is_label, is_no_label, ends_lines, ends_named, ends_names, no_value, ends_block, ends_blocks, begins_program}
+use Rattle.il_reader.specs.Grammar.{block_word, OperandText, Constant, Direct, Named, Field, ArgumentText, CallText, BehindText, Nothing, Given, Target, Opened, Called, no_dot, before_dot, before_no_dot, ends_arguments, before_close, no_open, OperationText, LineText, Labelled, Plain, NamesText, Located, More, DeclarationText, ProgramText, is_truth, is_variable, is_constant, form_of, operator_of, is_line_stop, is_label, is_no_label, ends_lines, ends_named, ends_names, no_value, ends_block, ends_blocks, begins_program}
 use Rattle.il_reader.specs.Walk.{field_at, inner_field_at, named_by, named, next_is_variable, lone_at, inner_operand_at, an_output, an_input, side_at, an_argument, argument_at, next_argument_at, together, inside_at, arguments_at, a_call, call_at, operator_at, variable_at, constant_at, operand_at, optional_operand_at, nested_at, either_at, behind_at, operation_at, optional_operation_at, labelled, labelled_at, plain_at, either_line_at, line_at, name_at, names_at, initial_at, declared, declaration_at, block_at, named_program, bare_program, end_at, finish_at, named_at, bare_at, program_at}
 use Rattle.il_reader.specs.Spelling.{Part, breaks, one, this, operator, ahead, Spell, name, sign, word, spelled_operand, spelled_inner_operand, spelled_side, spelled_argument, spelled_next, spelled_inside, spelled_arguments, spelled_call, spelled_optional, accepts, accepting, spelled_behind, spelled_operation, spelled_optional_operation, spelled_content, spelled_line, spelled_name, is_not_at, spelled_names, spelled_initial, spelled_declaration, spelled_block, is_bare, spelled_bare, spelled_by, spelled_program, listed}
 use Rattle.il_reader.proofs.Laws.{Law, Any, ok_is, bind_ok, count, law_shrinks, led_law, closed_law, many_law, until_law, pair_law, mapped_law, choice_law, told_law, past_law, else_law, no_front, stand_law, token_law, one_law, mark_law, meaning_law}
@@ -598,9 +599,9 @@ behind_law forms.Call = call_behind
 
 -- operations
 
-operator_law : Law Any (λ x. operator operator_of x ∷ []) operator_at
+operator_law : (dialect : Dialect) → Law Any (λ x. operator (operator_of dialect) x ∷ []) (operator_at dialect)
 unfolding operator_at operator_of
-operator_law = meaning_law operator_of refl
+operator_law dialect = meaning_law (operator_of dialect) refl
 
 abbrev some_operator : Operator → Option Operator
 some_operator x = Some x
@@ -620,43 +621,43 @@ abbrev made : Operator → BehindText → OperationText
 made x b = record { operator = x; behind = b }
 
 -- the token that an operation begins with
-first_operator : (o : OperationText) (ts rest : List Token) → Spell (spelled_operation o) ts rest → operator_of (first ts) ≡ Some o.operator
-first_operator o [] rest h = absurd h
-first_operator o (t ∷ ts) rest h = (accepted_is o.behind (operator_of t) o.operator h.0).0
+first_operator : (dialect : Dialect) → (o : OperationText) (ts rest : List Token) → Spell (spelled_operation dialect o) ts rest → operator_of dialect (first ts) ≡ Some o.operator
+first_operator dialect o [] rest h = absurd h
+first_operator dialect o (t ∷ ts) rest h = (accepted_is o.behind (operator_of dialect t) o.operator h.0).0
 
-operation_law : Law Any spelled_operation operation_at
+operation_law : (dialect : Dialect) → Law Any (spelled_operation dialect) (operation_at dialect)
 unfolding operation_at
-operation_law = record { takes = takes; again = again }
+operation_law dialect = record { takes = takes; again = again }
   where
-    joined : (ts us rest : List Token) (x : Operator) (b : BehindText) → Spell (operator operator_of x ∷ []) ts us → accepts (form_of x.mnemonic.op) b ≡ true → Spell (spelled_behind b) us rest → Spell (spelled_operation (made x b)) ts rest
+    joined : (ts us rest : List Token) (x : Operator) (b : BehindText) → Spell (operator (operator_of dialect) x ∷ []) ts us → accepts (form_of x.mnemonic.op) b ≡ true → Spell (spelled_behind b) us rest → Spell (spelled_operation dialect (made x b)) ts rest
     joined [] us rest x b h is g = absurd h
     joined (t ∷ ts) us rest x b h is g =
-        let here : accepting b (operator_of t) ≡ Some x = rw (h.0, is) refl in
+        let here : accepting b (operator_of dialect t) ≡ Some x = rw (h.0, is) refl in
         (here, subst (λ (vs : List Token). Spell (spelled_behind b) vs rest) (sym h.1) g)
 
-    takes : (ts : List Token) (x : OperationText × List Token) → operation_at ts ≡ Ok x → Unit {0} × Spell (spelled_operation x.0) ts x.1
+    takes : (ts : List Token) (x : OperationText × List Token) → operation_at dialect ts ≡ Ok x → Unit {0} × Spell (spelled_operation dialect x.0) ts x.1
     takes ts x e =
-        let a = bind_ok (operator_at ts) (λ o. behind_at (form_of o.0.mnemonic.op) o.1 >>= λ b. Ok (made o.0 b.0, b.1)) x e in
+        let a = bind_ok (operator_at dialect ts) (λ o. behind_at (form_of o.0.mnemonic.op) o.1 >>= λ b. Ok (made o.0 b.0, b.1)) x e in
         let b = bind_ok (behind_at (form_of a.0.0.mnemonic.op) a.0.1) (λ b. Ok (made a.0.0 b.0, b.1)) x a.2 in
-        let f = operator_law.takes ts a.0 a.1 in
+        let f = (operator_law dialect).takes ts a.0 a.1 in
         let g = (behind_law (form_of a.0.0.mnemonic.op)).takes a.0.1 b.0 b.1 in
-        let P : OperationText × List Token → Type 0 = λ y. Unit {0} × Spell (spelled_operation y.0) ts y.1 in
+        let P : OperationText × List Token → Type 0 = λ y. Unit {0} × Spell (spelled_operation dialect y.0) ts y.1 in
         subst P (ok_is (made a.0.0 b.0.0, b.0.1) x b.2) (tt, joined ts a.0.1 b.0.1 a.0.0 b.0.0 f.1 g.0 g.1)
 
-    again : (o : OperationText) (ts rest : List Token) → Unit {0} → Spell (spelled_operation o) ts rest → operation_at ts ≡ Ok (o, rest)
+    again : (o : OperationText) (ts rest : List Token) → Unit {0} → Spell (spelled_operation dialect o) ts rest → operation_at dialect ts ≡ Ok (o, rest)
     again o [] rest d h = absurd h
     again o (t ∷ ts) rest d h =
-        let p = accepted_is o.behind (operator_of t) o.operator h.0 in
-        let f : operator_at (t ∷ ts) ≡ Ok (o.operator, ts) = operator_law.again o.operator (t ∷ ts) ts tt (p.0, refl) in
+        let p = accepted_is o.behind (operator_of dialect t) o.operator h.0 in
+        let f : operator_at dialect (t ∷ ts) ≡ Ok (o.operator, ts) = (operator_law dialect).again o.operator (t ∷ ts) ts tt (p.0, refl) in
         let g = (behind_law (form_of o.operator.mnemonic.op)).again o.behind ts rest p.1 h.1 in
         rw (f, g) refl
 
 -- an operator is no end of a line
-operator_no_stop : (t : Token) (x : Operator) → operator_of t ≡ Some x → stops_line t.class ≡ false
+operator_no_stop : (dialect : Dialect) → (t : Token) (x : Operator) → operator_of dialect t ≡ Some x → stops_line t.class ≡ false
 unfolding operator_of
-operator_no_stop t x e = by_class t.class refl
+operator_no_stop dialect t x e = by_class t.class refl
   where
-    never : operator_of t ≡ None → ⊥
+    never : operator_of dialect t ≡ None → ⊥
     never none = let f : None ≡ some_operator x = sym none ∙ e in absurd cc
 
     by_class : (c : Class) → t.class ≡ c → stops_line c ≡ false
@@ -664,27 +665,27 @@ operator_no_stop t x e = by_class t.class refl
     by_class (classes.Sign signs.Break) is = absurd (never (rw is refl))
     by_class c is = refl
 
-operation_no_stop : (o : OperationText) (ts rest : List Token) → Spell (spelled_operation o) ts rest → is_line_stop ts ≡ false
-operation_no_stop o ts rest h = operator_no_stop (first ts) o.operator (first_operator o ts rest h)
+operation_no_stop : (dialect : Dialect) → (o : OperationText) (ts rest : List Token) → Spell (spelled_operation dialect o) ts rest → is_line_stop ts ≡ false
+operation_no_stop dialect o ts rest h = operator_no_stop dialect (first ts) o.operator (first_operator dialect o ts rest h)
 
 -- lines
 
-optional_operation_law : Law Any spelled_optional_operation optional_operation_at
+optional_operation_law : (dialect : Dialect) → Law Any (spelled_optional_operation dialect) (optional_operation_at dialect)
 unfolding optional_operation_at
-optional_operation_law = told_law (λ o. (None ≡ o) ⊎ IsSome o) Any spelled_optional_operation _
-    (choice_law (λ o. None ≡ o) IsSome spelled_optional_operation is_line_stop _ _
-    (stand_law spelled_optional_operation is_line_stop None refl)
-    (mapped_law Any IsSome spelled_operation spelled_optional_operation Some _ operation_law (λ x. refl) (λ x d. tt) from_some)
+optional_operation_law dialect = told_law (λ o. (None ≡ o) ⊎ IsSome o) Any (spelled_optional_operation dialect) _
+    (choice_law (λ o. None ≡ o) IsSome (spelled_optional_operation dialect) is_line_stop _ _
+    (stand_law (spelled_optional_operation dialect) is_line_stop None refl)
+    (mapped_law Any IsSome (spelled_operation dialect) (spelled_optional_operation dialect) Some _ (operation_law dialect) (λ x. refl) (λ x d. tt) from_some)
     begins begins_not)
     (λ x d. tt) all
   where
-    begins : (o : Option OperationText) (ts rest : List Token) → None ≡ o → Spell (spelled_optional_operation o) ts rest → is_line_stop ts ≡ true
+    begins : (o : Option OperationText) (ts rest : List Token) → None ≡ o → Spell (spelled_optional_operation dialect o) ts rest → is_line_stop ts ≡ true
     begins None ts rest d h = h.0
     begins (Some x) ts rest d h = absurd cc
 
-    begins_not : (o : Option OperationText) (ts rest : List Token) → IsSome o → Spell (spelled_optional_operation o) ts rest → is_line_stop ts ≡ false
+    begins_not : (o : Option OperationText) (ts rest : List Token) → IsSome o → Spell (spelled_optional_operation dialect o) ts rest → is_line_stop ts ≡ false
     begins_not None ts rest d h = absurd d
-    begins_not (Some x) ts rest d h = operation_no_stop x ts rest h
+    begins_not (Some x) ts rest d h = operation_no_stop dialect x ts rest h
 
     all : (o : Option OperationText) → Unit {0} → (None ≡ o) ⊎ IsSome o
     all None d = inl refl
@@ -698,60 +699,60 @@ abbrev IsPlain : LineText → Type 0
 IsPlain (Plain o) = Unit {0}
 IsPlain (Labelled t o) = ⊥
 
-labelled_law : Law IsLabelled spelled_content labelled_at
+labelled_law : (dialect : Dialect) → Law IsLabelled (spelled_content dialect) (labelled_at dialect)
 unfolding labelled_at
-labelled_law = mapped_law _ IsLabelled _ spelled_content labelled _ (pair_law Any _ _ _ _ _ (expect_law signs.Name) (led_law Any _ _ _ _ (mark_expect_law signs.Colon) optional_operation_law)) (λ x. refl) (λ x d. tt) from
+labelled_law dialect = mapped_law _ IsLabelled _ (spelled_content dialect) labelled _ (pair_law Any _ _ _ _ _ (expect_law signs.Name) (led_law Any _ _ _ _ (mark_expect_law signs.Colon) (optional_operation_law dialect))) (λ x. refl) (λ x d. tt) from
   where
     from : (l : LineText) → IsLabelled l → (x : Token × Option OperationText) × (labelled x ≡ l) × (Unit {0} × Unit {0})
     from (Labelled t o) d = (both t o, refl, both tt tt)
     from (Plain o) d = absurd d
 
-abbrev spelled_plain : LineText → List Part
-spelled_plain (Plain o) = spelled_operation o
-spelled_plain l = []
+abbrev spelled_plain : (dialect : Dialect) → LineText → List Part
+spelled_plain dialect (Plain o) = spelled_operation dialect o
+spelled_plain dialect l = []
 
-plain_law : Law IsPlain spelled_plain plain_at
+plain_law : (dialect : Dialect) → Law IsPlain (spelled_plain dialect) (plain_at dialect)
 unfolding plain_at
-plain_law = mapped_law Any IsPlain spelled_operation spelled_plain Plain _ operation_law (λ x. refl) (λ x d. tt) from
+plain_law dialect = mapped_law Any IsPlain (spelled_operation dialect) (spelled_plain dialect) Plain _ (operation_law dialect) (λ x. refl) (λ x d. tt) from
   where
     from : (l : LineText) → IsPlain l → (x : OperationText) × (Plain x ≡ l) × Unit {0}
     from (Plain o) d = (o, refl, tt)
     from (Labelled t o) d = absurd d
 
-label_begins : (t : Token) (ps : List Part) (ts rest : List Token) → Spell (name t ∷ sign signs.Colon ∷ ps) ts rest → is_label ts ≡ true
+label_begins : (dialect : Dialect) → (t : Token) (ps : List Part) (ts rest : List Token) → Spell (name t ∷ sign signs.Colon ∷ ps) ts rest → is_label dialect ts ≡ true
 unfolding is_label
-label_begins t ps [] rest h = absurd h
-label_begins t ps (u ∷ us) rest h = both_true _ _ h.0.0 (either_true _ _ (front (is_sign signs.Colon) ps us rest h.1))
+label_begins dialect t ps [] rest h = absurd h
+label_begins dialect t ps (u ∷ us) rest h = both_true _ _ h.0.0 (either_true _ _ (front (is_sign signs.Colon) ps us rest h.1))
 
 -- nothing is taken, where this stands next
 here_law : (p : List Token → Bool) → Law Any (λ (u : Unit {0}). ahead p ∷ []) (stand p tt)
 here_law p = told_law (λ u. tt ≡ u) Any _ _ (stand_law (λ u. ahead p ∷ []) p tt refl) (λ x d. tt) (λ x d. refl)
 
-content_law : Law Any spelled_content either_line_at
+content_law : (dialect : Dialect) → Law Any (spelled_content dialect) (either_line_at dialect)
 unfolding either_line_at
-content_law = told_law (λ l. IsLabelled l ⊎ IsPlain l) Any spelled_content _
-    (else_law IsLabelled IsPlain spelled_content spelled_plain is_label _ _ labelled_law plain_law same begins)
+content_law dialect = told_law (λ l. IsLabelled l ⊎ IsPlain l) Any (spelled_content dialect) _
+    (else_law IsLabelled IsPlain (spelled_content dialect) (spelled_plain dialect) (is_label dialect) _ _ (labelled_law dialect) (plain_law dialect) same begins)
     (λ x d. tt) all
   where
-    same : (l : LineText) → IsPlain l → spelled_content l ≡ ahead is_no_label ∷ spelled_plain l
+    same : (l : LineText) → IsPlain l → spelled_content dialect l ≡ ahead (is_no_label dialect) ∷ spelled_plain dialect l
     same (Plain o) d = refl
     same (Labelled t o) d = absurd d
 
-    begins : (l : LineText) (ts rest : List Token) → IsLabelled l → Spell (spelled_content l) ts rest → is_label ts ≡ true
-    begins (Labelled t o) ts rest d h = label_begins t (spelled_optional_operation o) ts rest h
+    begins : (l : LineText) (ts rest : List Token) → IsLabelled l → Spell (spelled_content dialect l) ts rest → is_label dialect ts ≡ true
+    begins (Labelled t o) ts rest d h = label_begins dialect t (spelled_optional_operation dialect o) ts rest h
     begins (Plain o) ts rest d h = absurd d
 
     all : (l : LineText) → Unit {0} → IsLabelled l ⊎ IsPlain l
     all (Labelled t o) d = inl tt
     all (Plain o) d = inr tt
 
-line_law : Law Any spelled_line line_at
+line_law : (dialect : Dialect) → Law Any (spelled_line dialect) (line_at dialect)
 unfolding line_at
-line_law = closed_law Any (λ l. breaks ∷ spelled_content l) (ahead is_line_stop ∷ []) _ _ (past_law Any spelled_content _ content_law) (here_law is_line_stop)
+line_law dialect = closed_law Any (λ l. breaks ∷ spelled_content dialect l) (ahead is_line_stop ∷ []) _ _ (past_law Any (spelled_content dialect) _ (content_law dialect)) (here_law is_line_stop)
 
-line_counts : (l : LineText) → 0 < count (spelled_line l)
-line_counts (Labelled t o) = omega arith
-line_counts (Plain o) = omega arith
+line_counts : (dialect : Dialect) → (l : LineText) → 0 < count (spelled_line dialect l)
+line_counts dialect (Labelled t o) = omega arith
+line_counts dialect (Plain o) = omega arith
 
 -- declarations
 
@@ -841,22 +842,22 @@ declaration_law = mapped_law _ Any _ spelled_declaration declared _
 declaration_counts : (d : DeclarationText) → 0 < count (spelled_declaration d)
 declaration_counts d = omega arith
 
-block_law : Law Any spelled_block block_at
+block_law : (dialect : Dialect) → Law Any (spelled_block dialect) (block_at dialect)
 unfolding block_at
-block_law = led_law Any (breaks ∷ word (codes "VAR") ∷ []) (λ ds. listed ends_block spelled_declaration ds ++ breaks ∷ word (codes "END_VAR") ∷ []) _ _
-    (past_law Any _ _ (keyword_law (codes "VAR")))
+block_law dialect = led_law Any (breaks ∷ word (block_word dialect) ∷ []) (λ ds. listed ends_block spelled_declaration ds ++ breaks ∷ word (codes "END_VAR") ∷ []) _ _
+    (past_law Any _ _ (keyword_law (block_word dialect)))
     (closed_law Any _ _ _ _ (until_law spelled_declaration ends_block declaration_at declaration_law declaration_counts) (past_law Any _ _ (keyword_law (codes "END_VAR"))))
 
-block_counts : (ds : List DeclarationText) → 0 < count (spelled_block ds)
-block_counts ds = omega arith
+block_counts : (dialect : Dialect) → (ds : List DeclarationText) → 0 < count (spelled_block dialect ds)
+block_counts dialect ds = omega arith
 
 -- what each thing of a list takes
 
 pub next_shrinks : (ts : List Token) (x : ArgumentText × List Token) → next_argument_at ts ≡ Ok x → length x.1 < length ts
 next_shrinks = law_shrinks spelled_next next_argument_at next_argument_law next_counts
 
-pub line_shrinks : (ts : List Token) (x : LineText × List Token) → line_at ts ≡ Ok x → length x.1 < length ts
-line_shrinks = law_shrinks spelled_line line_at line_law line_counts
+pub line_shrinks : (dialect : Dialect) → (ts : List Token) (x : LineText × List Token) → line_at dialect ts ≡ Ok x → length x.1 < length ts
+line_shrinks dialect = law_shrinks (spelled_line dialect) (line_at dialect) (line_law dialect) (line_counts dialect)
 
 pub name_shrinks : (ts : List Token) (x : Token × List Token) → name_at ts ≡ Ok x → length x.1 < length ts
 name_shrinks = law_shrinks spelled_name name_at name_law name_counts
@@ -864,8 +865,8 @@ name_shrinks = law_shrinks spelled_name name_at name_law name_counts
 pub declaration_shrinks : (ts : List Token) (x : DeclarationText × List Token) → declaration_at ts ≡ Ok x → length x.1 < length ts
 declaration_shrinks = law_shrinks spelled_declaration declaration_at declaration_law declaration_counts
 
-pub block_shrinks : (ts : List Token) (x : List DeclarationText × List Token) → block_at ts ≡ Ok x → length x.1 < length ts
-block_shrinks = law_shrinks spelled_block block_at block_law block_counts
+pub block_shrinks : (dialect : Dialect) → (ts : List Token) (x : List DeclarationText × List Token) → block_at dialect ts ≡ Ok x → length x.1 < length ts
+block_shrinks dialect = law_shrinks (spelled_block dialect) (block_at dialect) (block_law dialect) (block_counts dialect)
 
 -- programs
 
@@ -884,21 +885,21 @@ abbrev IsBareProgram : ProgramText → Type 0
 IsBareProgram s = None ≡ s.name
 
 -- a name, and what follows it in a program
-abbrev spelled_by_title : Option Token → ProgramText → List Part
-spelled_by_title None s = []
-spelled_by_title (Some t) s = name t ∷ (listed ends_blocks spelled_block s.blocks ++ (listed ends_named spelled_line s.lines ++ breaks ∷ word (codes "END_PROGRAM") ∷ breaks ∷ ahead at_end ∷ []))
+abbrev spelled_by_title : (dialect : Dialect) → Option Token → ProgramText → List Part
+spelled_by_title dialect None s = []
+spelled_by_title dialect (Some t) s = name t ∷ (listed (ends_blocks dialect) (spelled_block dialect) s.blocks ++ (listed ends_named (spelled_line dialect) s.lines ++ breaks ∷ word (codes "END_PROGRAM") ∷ breaks ∷ ahead at_end ∷ []))
 
-abbrev spelled_titled : ProgramText → List Part
-spelled_titled s = spelled_by_title s.name s
+abbrev spelled_titled : (dialect : Dialect) → ProgramText → List Part
+spelled_titled dialect s = spelled_by_title dialect s.name s
 
-abbrev titled_at : Reading ProgramText
-titled_at ts = mapped named_program (pair (expect signs.Name) (pair (many ends_blocks block_at) (closed (many ends_named line_at) finish_at))) ts
+abbrev titled_at : (dialect : Dialect) → Reading ProgramText
+titled_at dialect ts = mapped named_program (pair (expect signs.Name) (pair (many (ends_blocks dialect) (block_at dialect)) (closed (many ends_named (line_at dialect)) finish_at))) ts
 
-titled_law : Law IsNamedProgram spelled_titled titled_at
-titled_law = mapped_law _ IsNamedProgram _ spelled_titled named_program _
+titled_law : (dialect : Dialect) → Law IsNamedProgram (spelled_titled dialect) (titled_at dialect)
+titled_law dialect = mapped_law _ IsNamedProgram _ (spelled_titled dialect) named_program _
     (pair_law Any _ _ _ _ _ (expect_law signs.Name)
-    (pair_law Any Any _ _ _ _ (until_law spelled_block ends_blocks block_at block_law block_counts)
-    (closed_law Any _ _ _ _ (until_law spelled_line ends_named line_at line_law line_counts) finish_law)))
+    (pair_law Any Any _ _ _ _ (until_law (spelled_block dialect) (ends_blocks dialect) (block_at dialect) (block_law dialect) (block_counts dialect))
+    (closed_law Any _ _ _ _ (until_law (spelled_line dialect) ends_named (line_at dialect) (line_law dialect) (line_counts dialect)) finish_law)))
     (λ x. refl) (λ x d. tt) from
   where
     from : (s : ProgramText) → IsNamedProgram s → (x : Token × (List (List DeclarationText) × List LineText)) × (named_program x ≡ s) × (Unit {0} × (Unit {0} × Unit {0}))
@@ -909,23 +910,23 @@ titled_law = mapped_law _ IsNamedProgram _ spelled_titled named_program _
         made : Option Token → ProgramText
         made o = record { name = o; blocks = s.blocks; lines = s.lines }
 
-named_law : Law IsNamedProgram spelled_program named_at
+named_law : (dialect : Dialect) → Law IsNamedProgram (spelled_program dialect) (named_at dialect)
 unfolding named_at
-named_law = told_spelling IsNamedProgram (λ s. breaks ∷ word (codes "PROGRAM") ∷ spelled_titled s) spelled_program _
-    (led_law IsNamedProgram (breaks ∷ word (codes "PROGRAM") ∷ []) spelled_titled _ _ (past_law Any _ _ (keyword_law (codes "PROGRAM"))) titled_law) (λ s d. same s s.name d)
+named_law dialect = told_spelling IsNamedProgram (λ s. breaks ∷ word (codes "PROGRAM") ∷ spelled_titled dialect s) (spelled_program dialect) _
+    (led_law IsNamedProgram (breaks ∷ word (codes "PROGRAM") ∷ []) (spelled_titled dialect) _ _ (past_law Any _ _ (keyword_law (codes "PROGRAM"))) (titled_law dialect)) (λ s d. same s s.name d)
   where
-    same : (s : ProgramText) (o : Option Token) → IsSome o → spelled_by o s ≡ breaks ∷ word (codes "PROGRAM") ∷ spelled_by_title o s
+    same : (s : ProgramText) (o : Option Token) → IsSome o → spelled_by dialect o s ≡ breaks ∷ word (codes "PROGRAM") ∷ spelled_by_title dialect o s
     same s None d = absurd d
     same s (Some t) d = refl
 
-abbrev spelled_rest : ProgramText → List Part
-spelled_rest s = spelled_bare s
+abbrev spelled_rest : (dialect : Dialect) → ProgramText → List Part
+spelled_rest dialect s = spelled_bare dialect s
 
-bare_law : Law IsBareProgram spelled_rest bare_at
+bare_law : (dialect : Dialect) → Law IsBareProgram (spelled_rest dialect) (bare_at dialect)
 unfolding bare_at
-bare_law = mapped_law _ IsBareProgram _ spelled_rest bare_program _
-    (pair_law Any Any _ _ _ _ (until_law spelled_block ends_blocks block_at block_law block_counts)
-    (closed_law Any _ _ _ _ (until_law spelled_line ends_lines line_at line_law line_counts) (past_law Any _ _ end_law)))
+bare_law dialect = mapped_law _ IsBareProgram _ (spelled_rest dialect) bare_program _
+    (pair_law Any Any _ _ _ _ (until_law (spelled_block dialect) (ends_blocks dialect) (block_at dialect) (block_law dialect) (block_counts dialect))
+    (closed_law Any _ _ _ _ (until_law (spelled_line dialect) ends_lines (line_at dialect) (line_law dialect) (line_counts dialect)) (past_law Any _ _ end_law)))
     (λ x. refl) (λ x d. refl) from
   where
     from : (s : ProgramText) → IsBareProgram s → (x : List (List DeclarationText) × List LineText) × (bare_program x ≡ s) × (Unit {0} × Unit {0})
@@ -934,18 +935,18 @@ bare_law = mapped_law _ IsBareProgram _ spelled_rest bare_program _
         made : Option Token → ProgramText
         made o = record { name = o; blocks = s.blocks; lines = s.lines }
 
-pub program_law : Law Any spelled_program program_at
+pub program_law : (dialect : Dialect) → Law Any (spelled_program dialect) (program_at dialect)
 unfolding program_at begins_program
-program_law = told_law (λ s. IsNamedProgram s ⊎ IsBareProgram s) Any spelled_program _
-    (else_law IsNamedProgram IsBareProgram spelled_program spelled_rest begins_program _ _ named_law bare_law same begins)
+program_law dialect = told_law (λ s. IsNamedProgram s ⊎ IsBareProgram s) Any (spelled_program dialect) _
+    (else_law IsNamedProgram IsBareProgram (spelled_program dialect) (spelled_rest dialect) begins_program _ _ (named_law dialect) (bare_law dialect) same begins)
     (λ x d. tt) (λ s d. some_or_none s.name)
   where
-    same : (s : ProgramText) → IsBareProgram s → spelled_program s ≡ ahead is_bare ∷ spelled_rest s
-    same s d = ap (λ (o : Option Token). spelled_by o s) (sym d)
+    same : (s : ProgramText) → IsBareProgram s → spelled_program dialect s ≡ ahead is_bare ∷ spelled_rest dialect s
+    same s d = ap (λ (o : Option Token). (spelled_by dialect) o s) (sym d)
 
-    begins : (s : ProgramText) (ts rest : List Token) → IsNamedProgram s → Spell (spelled_program s) ts rest → begins_program ts ≡ true
+    begins : (s : ProgramText) (ts rest : List Token) → IsNamedProgram s → Spell (spelled_program dialect s) ts rest → begins_program ts ≡ true
     begins s ts rest d h = by_name s.name d h
       where
-        by_name : (o : Option Token) → IsSome o → Spell (spelled_by o s) ts rest → begins_program ts ≡ true
+        by_name : (o : Option Token) → IsSome o → Spell (spelled_by dialect o s) ts rest → begins_program ts ≡ true
         by_name None d h = absurd d
-        by_name (Some t) d h = front (is_word_token (codes "PROGRAM")) (name t ∷ (listed ends_blocks spelled_block s.blocks ++ (listed ends_named spelled_line s.lines ++ breaks ∷ word (codes "END_PROGRAM") ∷ breaks ∷ ahead at_end ∷ []))) (skip_breaks ts) rest h
+        by_name (Some t) d h = front (is_word_token (codes "PROGRAM")) (name t ∷ (listed (ends_blocks dialect) (spelled_block dialect) s.blocks ++ (listed ends_named (spelled_line dialect) s.lines ++ breaks ∷ word (codes "END_PROGRAM") ∷ breaks ∷ ahead at_end ∷ []))) (skip_breaks ts) rest h

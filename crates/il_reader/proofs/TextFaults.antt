@@ -4,6 +4,7 @@ use Rattle.std.specs.Prelude.{◌↔◌, nat_lt}
 use Rattle.std.specs.List.{AllByRecursion}
 use Rattle.std.proofs.lemmas.List.{append-nil}
 use Rattle.std.proofs.lemmas.Bool.{le-ltb, lt-ltb, ltb-true, ltb-false}
+use Rattle.il_model.specs.declared.dialect.Dialect.{Dialect}
 use Rattle.il_reader.specs.declared.fault.FaultAt.{FaultAt}
 use Rattle.il_reader.specs.declared.source.TheConstants.{TEXT_LIMIT}
 use Rattle.il_reader.specs.declared.fault.Fault.{Fault}
@@ -14,7 +15,7 @@ use Rattle.il_reader.specs.declared.lexeme.Class.TheVariants as classes
 use Rattle.il_reader.specs.Tokens.{Token, put, piece_of, tokens_behind, tokens_of}
 use Rattle.il_reader.specs.Front.{first, others, fault_at}
 use Rattle.il_reader.specs.Reading.{◌>>=◌}
-use Rattle.il_reader.specs.Grammar.{ProgramText}
+use Rattle.il_reader.specs.Grammar.{dialect_of, ProgramText}
 use Rattle.il_reader.specs.Walk.{text_of, program_at, told, source_of}
 use Rattle.il_reader.specs.Spelling.{Spell, spelled_program}
 use Rattle.il_reader.specs.Texts.{SourceText, IsSource, Reads, placed, too_long, Answers}
@@ -36,29 +37,29 @@ put_ends (Some classes.End) text left ts more h = false_true h.0
 put_ends (Some (classes.Broken f)) text left ts more h = false_true h.0
 put_ends (Some (classes.Sign s)) text left ts more h = more h.1
 
-text_ends : (k : ℕ) (bytes : List ℕ) → AllByRecursion GoesOn (tokens_behind k bytes) → ⊥
+text_ends : (dialect : Dialect) → (k : ℕ) (bytes : List ℕ) → AllByRecursion GoesOn (tokens_behind dialect k bytes) → ⊥
 unfolding tokens_behind
-text_ends k [] h = false_true h.0
-text_ends (suc k) (b ∷ bs) h = text_ends k bs h
-text_ends zero (b ∷ bs) h = put_ends (piece_of (b ∷ bs)).class _ _ _ (text_ends ((piece_of (b ∷ bs)).len - 1) bs) h
+text_ends dialect k [] h = false_true h.0
+text_ends dialect (suc k) (b ∷ bs) h = text_ends dialect k bs h
+text_ends dialect zero (b ∷ bs) h = put_ends (piece_of dialect (b ∷ bs)).class _ _ _ (text_ends dialect ((piece_of dialect (b ∷ bs)).len - 1) bs) h
 
 -- so the fault of a text stands at one of its tokens
-at_a_token : (bytes : List ℕ) (f : FaultAt) → Placed (tokens_of bytes) f → IsTextFault bytes f
-at_a_token bytes f p = by_rest p.before p.rest p.parts p.inner p.stands
+at_a_token : (dialect : Dialect) → (bytes : List ℕ) (f : FaultAt) → Placed dialect (tokens_of dialect bytes) f → IsTextFault dialect bytes f
+at_a_token dialect bytes f p = by_rest p.before p.rest p.parts p.inner p.stands
   where
-    by_rest : (before rest : List Token) → before ++ rest ≡ tokens_of bytes → AllByRecursion GoesOn before → StandsAt before (first rest) f → IsTextFault bytes f
+    by_rest : (before rest : List Token) → before ++ rest ≡ tokens_of dialect bytes → AllByRecursion GoesOn before → StandsAt dialect before (first rest) f → IsTextFault dialect bytes f
     by_rest before [] parts inner stands =
         let P : List Token → Type 0 = λ ts. AllByRecursion GoesOn ts in
-        absurd (text_ends 0 bytes (subst P (sym (append-nil before) ∙ parts) inner))
+        absurd (text_ends dialect 0 bytes (subst P (sym (append-nil before) ∙ parts) inner))
     by_rest before (t ∷ after) parts inner stands = record { before = before; at = t; after = after; parts = parts; stands = stands }
 
 refused_by : (r : Result (ProgramText × List Token) FaultAt) (f : FaultAt) → (r >>= λ x. Ok x.0) ≡ Err f → r ≡ Err f
 refused_by (Ok x) f e = absurd cc
 refused_by (Err g) f e = cc
 
-stands : (bytes : List ℕ) (f : FaultAt) → text_of bytes ≡ Err f → IsTextFault bytes f
+stands : (dialect : Dialect) → (bytes : List ℕ) (f : FaultAt) → text_of dialect bytes ≡ Err f → IsTextFault dialect bytes f
 unfolding text_of
-stands bytes f h = at_a_token bytes f (place_of (tokens_of bytes) f (refused_by (program_at (tokens_of bytes)) f h))
+stands dialect bytes f h = at_a_token dialect bytes f (place_of dialect (tokens_of dialect bytes) f (refused_by (program_at dialect (tokens_of dialect bytes)) f h))
 
 -- of two ways to part a list they are the same, or the one is a beginning of the other
 split_cases : (xs ys us vs : List Token) → xs ++ ys ≡ us ++ vs → (ys ≡ vs) ⊎ (((c : List Token) × (us ≡ xs ++ first ys ∷ c)) ⊎ ((c : List Token) × (xs ≡ us ++ first vs ∷ c)))
@@ -76,40 +77,40 @@ split_cases (x ∷ xs) ys (u ∷ us) vs e = by_others (split_cases xs ys us vs (
     by_others (inr (inr h)) = inr (inr (h.0, ap (λ (ts : List Token). x ∷ ts) h.1 ∙ ap (λ (t : Token). t ∷ us ++ first vs ∷ h.0) same))
 
 -- what is begun, all that stands before it begins
-farther_begins : (xs c whole : List Token) (t : Token) → whole ≡ xs ++ t ∷ c → IsCompleted whole → Begins (xs ++ t ∷ [])
-farther_begins xs c whole t e b =
-    let ts : List Token = tokens_of b.0 in
+farther_begins : (dialect : Dialect) → (xs c whole : List Token) (t : Token) → whole ≡ xs ++ t ∷ c → IsCompleted dialect whole → Begins dialect (xs ++ t ∷ [])
+farther_begins dialect xs c whole t e b =
+    let ts : List Token = tokens_of dialect b.0 in
     let joined : whole ++ ts ≡ (xs ++ t ∷ []) ++ (c ++ ts) = ap (λ (us : List Token). us ++ ts) e ∙ append_assoc xs (t ∷ c) ts ∙ sym (append_assoc xs (t ∷ []) (c ++ ts)) in
-    let P : List Token → Type 0 = λ us. Spell (spelled_program b.1) us b.2.0 in
+    let P : List Token → Type 0 = λ us. Spell (spelled_program dialect b.1) us b.2.0 in
     (c ++ ts, b.1, (b.2.0, subst P joined b.2.1))
 
 -- the fault of a text stands at one place
-one_place : (bytes : List ℕ) (f g : FaultAt) → IsTextFault bytes f → IsTextFault bytes g → f ≡ g
-one_place bytes f g a b = by_parts (split_cases a.before (a.at ∷ a.after) b.before (b.at ∷ b.after) (a.parts ∙ sym b.parts))
+one_place : (dialect : Dialect) → (bytes : List ℕ) (f g : FaultAt) → IsTextFault dialect bytes f → IsTextFault dialect bytes g → f ≡ g
+one_place dialect bytes f g a b = by_parts (split_cases a.before (a.at ∷ a.after) b.before (b.at ∷ b.after) (a.parts ∙ sym b.parts))
   where
     by_parts : (a.at ∷ a.after ≡ b.at ∷ b.after) ⊎ (((c : List Token) × (b.before ≡ a.before ++ a.at ∷ c)) ⊎ ((c : List Token) × (a.before ≡ b.before ++ b.at ∷ c))) → f ≡ g
     by_parts (inl h) = a.stands.fault ∙ ap (λ (ts : List Token). fault_at (first ts)) h ∙ sym b.stands.fault
-    by_parts (inr (inl h)) = absurd (a.stands.not_begun (farther_begins a.before h.0 b.before a.at h.1 b.stands.begun))
-    by_parts (inr (inr h)) = absurd (b.stands.not_begun (farther_begins b.before h.0 a.before b.at h.1 a.stands.begun))
+    by_parts (inr (inl h)) = absurd (a.stands.not_begun (farther_begins dialect a.before h.0 b.before a.at h.1 b.stands.begun))
+    by_parts (inr (inr h)) = absurd (b.stands.not_begun (farther_begins dialect b.before h.0 a.before b.at h.1 a.stands.begun))
 
 -- a text with a fault is not read
-not_read : (bytes : List ℕ) (f : FaultAt) (p : ProgramText) → IsTextFault bytes f → text_of bytes ≡ Ok p → ⊥
+not_read : (dialect : Dialect) → (bytes : List ℕ) (f : FaultAt) (p : ProgramText) → IsTextFault dialect bytes f → text_of dialect bytes ≡ Ok p → ⊥
 unfolding text_of
-not_read bytes f p a is =
-    let m = bind_ok (program_at (tokens_of bytes)) (λ x. Ok x.0) p is in
-    let P : List Token → Type 0 = λ ts. Spell (spelled_program m.0.0) ts m.0.1 in
-    let joined : tokens_of bytes ≡ (a.before ++ a.at ∷ []) ++ a.after = sym a.parts ∙ sym (append_assoc a.before (a.at ∷ []) a.after) in
-    a.stands.not_begun (a.after, m.0.0, (m.0.1, subst P joined (program_law.takes (tokens_of bytes) m.0 m.1).1))
+not_read dialect bytes f p a is =
+    let m = bind_ok (program_at dialect (tokens_of dialect bytes)) (λ x. Ok x.0) p is in
+    let P : List Token → Type 0 = λ ts. Spell (spelled_program dialect m.0.0) ts m.0.1 in
+    let joined : tokens_of dialect bytes ≡ (a.before ++ a.at ∷ []) ++ a.after = sym a.parts ∙ sym (append_assoc a.before (a.at ∷ []) a.after) in
+    a.stands.not_begun (a.after, m.0.0, (m.0.1, subst P joined ((program_law dialect).takes (tokens_of dialect bytes) m.0 m.1).1))
 
-refuses : (bytes : List ℕ) (f : FaultAt) → IsTextFault bytes f → text_of bytes ≡ Err f
-refuses bytes f a = by_result (text_of bytes) refl
+refuses : (dialect : Dialect) → (bytes : List ℕ) (f : FaultAt) → IsTextFault dialect bytes f → text_of dialect bytes ≡ Err f
+refuses dialect bytes f a = by_result (text_of dialect bytes) refl
   where
-    by_result : (r : Result ProgramText FaultAt) → text_of bytes ≡ r → text_of bytes ≡ Err f
-    by_result (Ok p) is = absurd (not_read bytes f p a is)
-    by_result (Err g) is = is ∙ ap (λ (h : FaultAt). Err h) (one_place bytes g f (stands bytes g is) a)
+    by_result : (r : Result ProgramText FaultAt) → text_of dialect bytes ≡ r → text_of dialect bytes ≡ Err f
+    by_result (Ok p) is = absurd (not_read dialect bytes f p a is)
+    by_result (Err g) is = is ∙ ap (λ (h : FaultAt). Err h) (one_place dialect bytes g f (stands dialect bytes g is) a)
 
-pub text_fault : (bytes : List ℕ) (f : FaultAt) → (text_of bytes ≡ Err f) ↔ IsTextFault bytes f
-text_fault bytes f = (stands bytes f, refuses bytes f)
+pub text_fault : (dialect : Dialect) → (bytes : List ℕ) (f : FaultAt) → (text_of dialect bytes ≡ Err f) ↔ (IsTextFault dialect) bytes f
+text_fault dialect bytes f = (stands dialect bytes f, refuses dialect bytes f)
 
 -- ---- with its line and column
 
@@ -124,7 +125,7 @@ told_fault bytes (Ok p) g e = absurd cc
 told_fault bytes (Err f) g e = (f, sym (same_fault (placed bytes f) g e), refl)
 
 source_fault : (bytes : List ℕ) (g : Fault) → nat_lt TEXT_LIMIT (length bytes) ≡ false → source_of bytes ≡ Err g → IsSourceFault bytes g
-source_fault bytes g fits e = let t = told_fault bytes (text_of bytes) g (rw fits at e) in (t.0, t.1, stands bytes t.0 t.2)
+source_fault bytes g fits e = let t = told_fault bytes (text_of (dialect_of bytes) bytes) g (rw fits at e) in (t.0, t.1, stands (dialect_of bytes) bytes t.0 t.2)
 
 -- ---- the fault of a text, be it too long or not
 
@@ -137,7 +138,7 @@ is_fault bytes g e = by_length (nat_lt TEXT_LIMIT (length bytes)) refl
 
 pub fault_told : (bytes : List ℕ) (g : Fault) → IsFaultOf bytes g → source_of bytes ≡ Err g
 fault_told bytes g (inl h) = rw (lt-ltb TEXT_LIMIT (length bytes) h.0) (ap as_refused (sym h.1))
-fault_told bytes g (inr h) = rw (le-ltb TEXT_LIMIT (length bytes) h.0) (rw (refuses bytes h.1.0 h.1.2) (ap as_refused (sym h.1.1)))
+fault_told bytes g (inr h) = rw (le-ltb TEXT_LIMIT (length bytes) h.0) (rw (refuses (dialect_of bytes) bytes h.1.0 h.1.2) (ap as_refused (sym h.1.1)))
 
 -- what is answered so is told by the fault of the text alone
 pub tells_first : (bytes : List ℕ) (r : Result SourceText ReadError) → Answers {X = SourceText} (λ s. s) r (source_of bytes) → TellsFirst bytes r
@@ -157,7 +158,7 @@ differs : (s : SourceText) (g : Fault) → as_read s ≡ as_refused g → ⊥
 differs s g e = cc
 
 source_read : (s : SourceText) → IsSource s → source_of s.text ≡ Ok s
-source_read s is = rw (le-ltb TEXT_LIMIT (length s.text) is.short) (rw (is_read s.text s.says is.said) refl)
+source_read s is = rw (le-ltb TEXT_LIMIT (length s.text) is.short) (rw (is_read (dialect_of s.text) s.text s.says is.said) refl)
 
 -- what the text says is what the walk gives
 read_is : (bytes : List ℕ) (s : SourceText) → Reads bytes s → source_of bytes ≡ Ok s
@@ -170,9 +171,9 @@ told_read : (bytes : List ℕ) (r : Result ProgramText FaultAt) (s : SourceText)
 told_read bytes (Ok p) s e = (p, same_read (made bytes p) s e, refl)
 told_read bytes (Err f) s e = absurd (differs s (placed bytes f) (sym e))
 
-reads_here : (bytes : List ℕ) (s : SourceText) (p : ProgramText) → nat_lt TEXT_LIMIT (length bytes) ≡ false → made bytes p ≡ s → text_of bytes ≡ Ok p → Reads bytes s
+reads_here : (bytes : List ℕ) (s : SourceText) (p : ProgramText) → nat_lt TEXT_LIMIT (length bytes) ≡ false → made bytes p ≡ s → text_of (dialect_of bytes) bytes ≡ Ok p → Reads bytes s
 reads_here bytes s p fits is read =
-    let here : Reads bytes (made bytes p) = (refl, record { short = ltb-false TEXT_LIMIT (length bytes) fits; said = said bytes p read }) in
+    let here : Reads bytes (made bytes p) = (refl, record { short = ltb-false TEXT_LIMIT (length bytes) fits; said = said (dialect_of bytes) bytes p read }) in
     subst (λ (r : SourceText). Reads bytes r) is here
 
 -- what the walk gives is what the text says
@@ -181,7 +182,7 @@ is_source bytes s e = by_length (nat_lt TEXT_LIMIT (length bytes)) refl
   where
     by_length : (b : Bool) → nat_lt TEXT_LIMIT (length bytes) ≡ b → Reads bytes s
     by_length true over = absurd (differs s too_long (sym (rw over at e)))
-    by_length false fits = let t = told_read bytes (text_of bytes) s (rw fits at e) in reads_here bytes s t.0 fits t.1 t.2
+    by_length false fits = let t = told_read bytes (text_of (dialect_of bytes) bytes) s (rw fits at e) in reads_here bytes s t.0 fits t.1 t.2
 
 pub one_source : (bytes : List ℕ) (s r : SourceText) → Reads bytes s → Reads bytes r → s ≡ r
 one_source bytes s r a b = same_read s r (sym (read_is bytes s a) ∙ read_is bytes r b)

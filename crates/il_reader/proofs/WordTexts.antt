@@ -5,8 +5,9 @@ use Rattle.std.proofs.lemmas.Bool.{ltb-false}
 use Rattle.std.proofs.lemmas.List.Concat.{flat_map-cons}
 use Rattle.std.proofs.Common.{append_assoc}
 use Rattle.std.specs.Prelude.{is_some}
+use Rattle.il_model.specs.declared.dialect.Dialect.{Dialect}
 use Rattle.il_model.specs.Words.{is_well_spelled}
-use Rattle.il_model.specs.Literals.{literal_of}
+use Rattle.il_model.specs.Dialects.{literal_in}
 use Rattle.il_reader.specs.declared.lexeme.Piece.{Piece}
 use Rattle.il_reader.specs.declared.lexeme.Sign.TheVariants as signs
 use Rattle.il_reader.specs.declared.lexeme.Class.{Class}
@@ -63,18 +64,18 @@ name_good bytes n begins all some = either bytes (is_well_spelled (take n bytes)
     spelled : is_well_spelled (take n bytes) ≡ true → Good bytes (cond (ltb 32 (length (take n bytes))) (broken TooLong) (sign signs.Name (length (take n bytes))))
     spelled well = either bytes (ltb 32 (length (take n bytes))) _ _ (λ long. other bytes _ refl) (λ short. fits well short)
 
-literal_good : (bytes text : List ℕ) → Good bytes (literal_piece text)
+literal_good : (dialect : Dialect) → (bytes text : List ℕ) → Good bytes (literal_piece dialect text)
 unfolding literal_piece
-literal_good bytes text = either bytes (is_some (literal_of text)) _ _ (λ _. other bytes _ refl) (λ _. other bytes _ refl)
+literal_good dialect bytes text = either bytes (is_some (literal_in dialect text)) _ _ (λ _. other bytes _ refl) (λ _. other bytes _ refl)
 
-word_good : (b : ℕ) (bs : List ℕ) → is_letter_byte b ≡ true → Good (b ∷ bs) (word_piece (b ∷ bs))
+word_good : (dialect : Dialect) → (b : ℕ) (bs : List ℕ) → is_letter_byte b ≡ true → Good (b ∷ bs) (word_piece dialect (b ∷ bs))
 unfolding word_piece
-word_good b bs is =
+word_good dialect b bs is =
     let n = suc (prefix_len is_word_byte bs) in
     let first : 1 + prefix_len is_word_byte bs ≡ n = omega arith in
     let w : is_word_byte b ≡ true = word_is b is in
     let all : list_all is_word_byte (b ∷ take (prefix_len is_word_byte bs) bs) ≡ true = rw (w, all-prefix is_word_byte bs) refl in
-    rw first (either (b ∷ bs) (begins_with 35 (drop n (b ∷ bs))) _ _ (λ _. literal_good (b ∷ bs) _) (λ plain. name_good (b ∷ bs) n is all (omega arith)))
+    rw first (either (b ∷ bs) (begins_with 35 (drop n (b ∷ bs))) _ _ (λ _. literal_good dialect (b ∷ bs) _) (λ plain. name_good (b ∷ bs) n is all (omega arith)))
 
 sign_good : (bytes : List ℕ) (b : ℕ) (bs : List ℕ) → Good bytes (sign_of b bs)
 unfolding sign_of
@@ -89,23 +90,23 @@ sign_good bytes b bs =
     either bytes (eqb b 38) _ _ (λ _. either bytes (is_n bs) _ _ (λ _. other bytes _ refl) (λ _. other bytes _ refl)) (λ _.
     either bytes (is_within 32 126 b) _ _ (λ _. other bytes _ refl) (λ _. other bytes _ refl)))))))))
 
-solid_good : (b : ℕ) (bs : List ℕ) → Good (b ∷ bs) (solid_piece (b ∷ bs))
+solid_good : (dialect : Dialect) → (b : ℕ) (bs : List ℕ) → Good (b ∷ bs) (solid_piece dialect (b ∷ bs))
 unfolding solid_piece
-solid_good b bs =
-    either (b ∷ bs) (is_letter_byte b) _ _ (λ is. word_good b bs is) (λ _.
-    either (b ∷ bs) (is_number_start b) _ _ (λ _. literal_good (b ∷ bs) _) (λ _.
+solid_good dialect b bs =
+    either (b ∷ bs) (is_letter_byte b) _ _ (λ is. word_good dialect b bs is) (λ _.
+    either (b ∷ bs) (is_number_start b) _ _ (λ _. literal_good dialect (b ∷ bs) _) (λ _.
     either (b ∷ bs) (eqb b 37) _ _ (λ _. other (b ∷ bs) _ refl) (λ _. sign_good (b ∷ bs) b bs)))
 
 comment_good : (bytes : List ℕ) (o : Option ℕ) → Good bytes (comment_piece o)
 comment_good bytes None = other bytes _ refl
 comment_good bytes (Some n) = other bytes _ refl
 
-piece_good : (b : ℕ) (bs : List ℕ) → Good (b ∷ bs) (piece_of (b ∷ bs))
+piece_good : (dialect : Dialect) → (b : ℕ) (bs : List ℕ) → Good (b ∷ bs) (piece_of dialect (b ∷ bs))
 unfolding piece_of
-piece_good b bs =
+piece_good dialect b bs =
     either (b ∷ bs) (eqb b 10) _ _ (λ _. other (b ∷ bs) _ refl) (λ _.
     either (b ∷ bs) (is_blank_byte b) _ _ (λ _. other (b ∷ bs) _ refl) (λ _.
-    either (b ∷ bs) (eqb b 40 && begins_with 42 bs) _ _ (λ _. comment_good (b ∷ bs) (comment_len (drop 1 bs))) (λ _. solid_good b bs)))
+    either (b ∷ bs) (eqb b 40 && begins_with 42 bs) _ _ (λ _. comment_good (b ∷ bs) (comment_len (drop 1 bs))) (λ _. solid_good dialect b bs)))
 
 abbrev pub IsWordToken : Token → Type 0
 IsWordToken t = is_sign signs.Name t ≡ true → IsWordText t.text
@@ -116,13 +117,13 @@ put_good (Some classes.End) text left ts here all = (here, tt)
 put_good (Some (classes.Broken f)) text left ts here all = (here, tt)
 put_good (Some (classes.Sign s)) text left ts here all = (here, all)
 
-tokens_good : (k : ℕ) (bytes : List ℕ) → AllByRecursion IsWordToken (tokens_behind k bytes)
+tokens_good : (dialect : Dialect) → (k : ℕ) (bytes : List ℕ) → AllByRecursion IsWordToken (tokens_behind dialect k bytes)
 unfolding tokens_behind
-tokens_good k [] = (λ e. absurd cc, tt)
-tokens_good (suc k) (b ∷ bs) = tokens_good k bs
-tokens_good zero (b ∷ bs) =
-    let p = piece_of (b ∷ bs) in
-    put_good p.class (take p.len (b ∷ bs)) (length (b ∷ bs)) (tokens_behind (p.len - 1) bs) (piece_good b bs).is_word (tokens_good (p.len - 1) bs)
+tokens_good dialect k [] = (λ e. absurd cc, tt)
+tokens_good dialect (suc k) (b ∷ bs) = tokens_good dialect k bs
+tokens_good dialect zero (b ∷ bs) =
+    let p = piece_of dialect (b ∷ bs) in
+    put_good p.class (take p.len (b ∷ bs)) (length (b ∷ bs)) (tokens_behind dialect (p.len - 1) bs) (piece_good dialect b bs).is_word (tokens_good dialect (p.len - 1) bs)
 
 -- ---- parts
 
@@ -182,32 +183,32 @@ names_good (More ts) qs all = each_good IsWordName spelled_name (ahead ends_name
 declaration_good : (d : DeclarationText) → AllByRecursion GoodPart (going ends_block spelled_declaration d) → IsWordDeclaration d
 declaration_good d all = record { name = a_name d.name all.1.1.0; names = names_good d.names _ all.1.1.1.1 }
 
-block_good : (ds : List DeclarationText) → AllByRecursion GoodPart (going ends_blocks spelled_block ds) → AllByRecursion IsWordDeclaration ds
-block_good ds all = each_good IsWordDeclaration (going ends_block spelled_declaration) (ahead ends_block ∷ []) declaration_good ds (left_good (listed ends_block spelled_declaration ds) _ all.1.1.1)
+block_good : (dialect : Dialect) → (ds : List DeclarationText) → AllByRecursion GoodPart (going (ends_blocks dialect) (spelled_block dialect) ds) → AllByRecursion IsWordDeclaration ds
+block_good dialect ds all = each_good IsWordDeclaration (going ends_block spelled_declaration) (ahead ends_block ∷ []) declaration_good ds (left_good (listed ends_block spelled_declaration ds) _ all.1.1.1)
 
-blocks_good : (bs : List (List DeclarationText)) (qs : List Part) → AllByRecursion GoodPart (listed ends_blocks spelled_block bs ++ qs) → AllByRecursion (AllByRecursion IsWordDeclaration) bs
-blocks_good bs qs all = each_good (AllByRecursion IsWordDeclaration) (going ends_blocks spelled_block) (ahead ends_blocks ∷ []) block_good bs (left_good (listed ends_blocks spelled_block bs) qs all)
+blocks_good : (dialect : Dialect) → (bs : List (List DeclarationText)) (qs : List Part) → AllByRecursion GoodPart (listed (ends_blocks dialect) (spelled_block dialect) bs ++ qs) → AllByRecursion (AllByRecursion IsWordDeclaration) bs
+blocks_good dialect bs qs all = each_good (AllByRecursion IsWordDeclaration) (going (ends_blocks dialect) (spelled_block dialect)) (ahead (ends_blocks dialect) ∷ []) (block_good dialect) bs (left_good (listed (ends_blocks dialect) (spelled_block dialect) bs) qs all)
 
-line_good : (stops : List Token → Bool) (l : LineText) → AllByRecursion GoodPart (going stops spelled_line l) → IsOperator l
-line_good stops (Plain o) all = all.1.1.1.0
-line_good stops (Labelled t o) all = (a_name t all.1.1.0, optional o all.1.1.1.1)
+line_good : (dialect : Dialect) → (stops : List Token → Bool) (l : LineText) → AllByRecursion GoodPart (going stops (spelled_line dialect) l) → IsOperator dialect l
+line_good dialect stops (Plain o) all = all.1.1.1.0
+line_good dialect stops (Labelled t o) all = (a_name t all.1.1.0, optional o all.1.1.1.1)
   where
-    optional : (o : Option OperationText) → AllByRecursion GoodPart (spelled_optional_operation o ++ ahead is_line_stop ∷ []) → IsOptionalOperation o
+    optional : (o : Option OperationText) → AllByRecursion GoodPart (spelled_optional_operation dialect o ++ ahead is_line_stop ∷ []) → IsOptionalOperation dialect o
     optional None h = tt
     optional (Some x) h = h.0
 
-body : (stops : List Token → Bool) (p : ProgramText) (qs : List Part) → AllByRecursion GoodPart (listed ends_blocks spelled_block p.blocks ++ (listed stops spelled_line p.lines ++ qs)) → AreWords p
-body stops p qs all =
-    let rest = right_good (listed ends_blocks spelled_block p.blocks) (listed stops spelled_line p.lines ++ qs) all in
+body : (dialect : Dialect) → (stops : List Token → Bool) (p : ProgramText) (qs : List Part) → AllByRecursion GoodPart (listed (ends_blocks dialect) (spelled_block dialect) p.blocks ++ (listed stops (spelled_line dialect) p.lines ++ qs)) → AreWords dialect p
+body dialect stops p qs all =
+    let rest = right_good (listed (ends_blocks dialect) (spelled_block dialect) p.blocks) (listed stops (spelled_line dialect) p.lines ++ qs) all in
     record {
-      blocks = blocks_good p.blocks (listed stops spelled_line p.lines ++ qs) all;
-      lines = each_good IsOperator (going stops spelled_line) (ahead stops ∷ []) (line_good stops) p.lines (left_good (listed stops spelled_line p.lines) qs rest);
+      blocks = blocks_good dialect p.blocks (listed stops (spelled_line dialect) p.lines ++ qs) all;
+      lines = each_good (IsOperator dialect) (going stops (spelled_line dialect)) (ahead stops ∷ []) (line_good dialect stops) p.lines (left_good (listed stops (spelled_line dialect) p.lines) qs rest);
     }
 
-program_good : (o : Option Token) (p : ProgramText) → AllByRecursion GoodPart (spelled_by o p) → AreWords p
-program_good None p all = body ends_lines p _ all.1
-program_good (Some t) p all = body ends_named p _ all.1.1.1
+program_good : (dialect : Dialect) → (o : Option Token) (p : ProgramText) → AllByRecursion GoodPart (spelled_by dialect o p) → AreWords dialect p
+program_good dialect None p all = body dialect ends_lines p _ all.1
+program_good dialect (Some t) p all = body dialect ends_named p _ all.1.1.1
 
 -- the names of a text's declarations are names
-pub said_words : (bytes : List ℕ) (p : ProgramText) → Says bytes p → AreWords p
-said_words bytes p says = program_good p.name p (parts_good (spelled_program p) (tokens_of bytes) says.0 (tokens_good 0 bytes) says.1)
+pub said_words : (dialect : Dialect) → (bytes : List ℕ) (p : ProgramText) → Says dialect bytes p → AreWords dialect p
+said_words dialect bytes p says = program_good dialect p.name p (parts_good (spelled_program dialect p) (tokens_of dialect bytes) says.0 (tokens_good dialect 0 bytes) says.1)

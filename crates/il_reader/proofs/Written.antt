@@ -1,5 +1,7 @@
 -- Tokens that are written, each with a blank behind it.
 use Rattle.std.proofs.Common.{◌≡◌, ℕ, Bool, true, false, not, List, [], ◌∷◌, ◌++◌, length, refl, codes, ◌&&◌}
+use Rattle.il_model.specs.declared.dialect.Dialect.{Dialect}
+use Rattle.il_model.specs.declared.dialect.Dialect.TheVariants as dialects
 use Rattle.il_model.specs.Words.{is_well_spelled, spells}
 use Rattle.il_reader.specs.declared.lexeme.Sign.{Sign}
 use Rattle.il_reader.specs.declared.lexeme.Sign.TheVariants as signs
@@ -7,7 +9,7 @@ use Rattle.il_reader.specs.declared.lexeme.Class.{Class}
 use Rattle.il_reader.specs.declared.lexeme.Class.TheVariants as classes
 use Rattle.il_reader.specs.Tokens.{Token, goes_on, tokens_of, tokens_behind, piece_of, solid_piece, sign_of, word_piece, name_of}
 use Rattle.il_reader.specs.Front.{is_class_of, is_sign, is_word_token, no_token}
-use Rattle.il_reader.specs.Grammar.{is_truth, is_variable, is_constant}
+use Rattle.il_reader.specs.Grammar.{block_word, is_truth, is_variable, is_constant}
 
 -- these bytes with a blank behind them, before a text
 abbrev pub written : List ℕ → List ℕ → List ℕ
@@ -17,8 +19,8 @@ abbrev pub token_of : Sign → List ℕ → List ℕ → Token
 token_of s w more = record { class = classes.Sign s; text = w; left = length (written w more) }
 
 -- they are this sign, and what follows are the tokens of that text
-abbrev pub Makes : Sign → List ℕ → Type 0
-Makes s w = (more : List ℕ) → tokens_of (written w more) ≡ token_of s w more ∷ tokens_of more
+abbrev pub Makes : (dialect : Dialect) → Sign → List ℕ → Type 0
+Makes dialect s w = (more : List ℕ) → tokens_of dialect (written w more) ≡ token_of s w more ∷ tokens_of dialect more
 
 -- behind such a token more may follow
 
@@ -46,10 +48,10 @@ constant_goes u is = by_name (is_sign signs.Name u) refl
     by_name false e = sign_goes signs.Literal u (rw e at is)
 
 -- bytes that are a token that passes
-pub record Written (p : Token → Bool) : Type 0 where
+pub record Written (dialect : Dialect) (p : Token → Bool) : Type 0 where
   pub sign : Sign
   pub word : List ℕ
-  pub makes : Makes sign word
+  pub makes : Makes dialect sign word
   pub passes : (more : List ℕ) → p (token_of sign word more) ≡ true
   pub solid : (more : List ℕ) → is_sign signs.Break (token_of sign word more) ≡ false
   pub goes : (u : Token) → p u ≡ true → goes_on u.class ≡ true
@@ -57,167 +59,169 @@ pub record Written (p : Token → Bool) : Type 0 where
 abbrev pub a_dot : List ℕ → List ℕ
 a_dot more = written (codes ".") more
 
-pub dot_makes : Makes signs.Dot (codes ".")
+pub dot_makes : (dialect : Dialect) → Makes dialect signs.Dot (codes ".")
 unfolding tokens_behind piece_of solid_piece sign_of
-dot_makes more = refl
+dot_makes dialect more = refl
 
-pub dot_written : Written (is_sign signs.Dot)
-dot_written = record { sign = signs.Dot; word = codes "."; makes = dot_makes; passes = λ more. refl; solid = λ more. refl; goes = sign_goes signs.Dot }
+pub dot_written : (dialect : Dialect) → Written dialect (is_sign signs.Dot)
+dot_written dialect = record { sign = signs.Dot; word = codes "."; makes = dot_makes dialect; passes = λ more. refl; solid = λ more. refl; goes = sign_goes signs.Dot }
 
-pub comma_makes : Makes signs.Comma (codes ",")
+pub comma_makes : (dialect : Dialect) → Makes dialect signs.Comma (codes ",")
 unfolding tokens_behind piece_of solid_piece sign_of
-comma_makes more = refl
+comma_makes dialect more = refl
 
-pub comma_written : Written (is_sign signs.Comma)
-comma_written = record { sign = signs.Comma; word = codes ","; makes = comma_makes; passes = λ more. refl; solid = λ more. refl; goes = sign_goes signs.Comma }
+pub comma_written : (dialect : Dialect) → Written dialect (is_sign signs.Comma)
+comma_written dialect = record { sign = signs.Comma; word = codes ","; makes = comma_makes dialect; passes = λ more. refl; solid = λ more. refl; goes = sign_goes signs.Comma }
 
 abbrev pub a_close : List ℕ → List ℕ
 a_close more = written (codes ")") more
 
-pub close_makes : Makes signs.Close (codes ")")
+pub close_makes : (dialect : Dialect) → Makes dialect signs.Close (codes ")")
 unfolding tokens_behind piece_of solid_piece sign_of
-close_makes more = refl
+close_makes dialect more = refl
 
-pub close_written : Written (is_sign signs.Close)
-close_written = record { sign = signs.Close; word = codes ")"; makes = close_makes; passes = λ more. refl; solid = λ more. refl; goes = sign_goes signs.Close }
+pub close_written : (dialect : Dialect) → Written dialect (is_sign signs.Close)
+close_written dialect = record { sign = signs.Close; word = codes ")"; makes = close_makes dialect; passes = λ more. refl; solid = λ more. refl; goes = sign_goes signs.Close }
 
 abbrev pub an_open : List ℕ → List ℕ
 an_open more = written (codes "(") more
 
-pub open_makes : Makes signs.Open (codes "(")
+pub open_makes : (dialect : Dialect) → Makes dialect signs.Open (codes "(")
 unfolding tokens_behind piece_of solid_piece sign_of
-open_makes more = refl
+open_makes dialect more = refl
 
-pub open_written : Written (is_sign signs.Open)
-open_written = record { sign = signs.Open; word = codes "("; makes = open_makes; passes = λ more. refl; solid = λ more. refl; goes = sign_goes signs.Open }
+pub open_written : (dialect : Dialect) → Written dialect (is_sign signs.Open)
+open_written dialect = record { sign = signs.Open; word = codes "("; makes = open_makes dialect; passes = λ more. refl; solid = λ more. refl; goes = sign_goes signs.Open }
 
 abbrev pub a_colon : List ℕ → List ℕ
 a_colon more = written (codes ":") more
 
-pub colon_makes : Makes signs.Colon (codes ":")
+pub colon_makes : (dialect : Dialect) → Makes dialect signs.Colon (codes ":")
 unfolding tokens_behind piece_of solid_piece sign_of
-colon_makes more = refl
+colon_makes dialect more = refl
 
-pub colon_written : Written (is_sign signs.Colon)
-colon_written = record { sign = signs.Colon; word = codes ":"; makes = colon_makes; passes = λ more. refl; solid = λ more. refl; goes = sign_goes signs.Colon }
+pub colon_written : (dialect : Dialect) → Written dialect (is_sign signs.Colon)
+colon_written dialect = record { sign = signs.Colon; word = codes ":"; makes = colon_makes dialect; passes = λ more. refl; solid = λ more. refl; goes = sign_goes signs.Colon }
 
-pub semicolon_makes : Makes signs.Semicolon (codes ";")
+pub semicolon_makes : (dialect : Dialect) → Makes dialect signs.Semicolon (codes ";")
 unfolding tokens_behind piece_of solid_piece sign_of
-semicolon_makes more = refl
+semicolon_makes dialect more = refl
 
-pub semicolon_written : Written (is_sign signs.Semicolon)
-semicolon_written = record { sign = signs.Semicolon; word = codes ";"; makes = semicolon_makes; passes = λ more. refl; solid = λ more. refl; goes = sign_goes signs.Semicolon }
+pub semicolon_written : (dialect : Dialect) → Written dialect (is_sign signs.Semicolon)
+semicolon_written dialect = record { sign = signs.Semicolon; word = codes ";"; makes = semicolon_makes dialect; passes = λ more. refl; solid = λ more. refl; goes = sign_goes signs.Semicolon }
 
 abbrev pub an_assign : List ℕ → List ℕ
 an_assign more = written (codes ":=") more
 
-pub assign_makes : Makes signs.Assign (codes ":=")
+pub assign_makes : (dialect : Dialect) → Makes dialect signs.Assign (codes ":=")
 unfolding tokens_behind piece_of solid_piece sign_of
-assign_makes more = refl
+assign_makes dialect more = refl
 
-pub assign_written : Written (is_sign signs.Assign)
-assign_written = record { sign = signs.Assign; word = codes ":="; makes = assign_makes; passes = λ more. refl; solid = λ more. refl; goes = sign_goes signs.Assign }
+pub assign_written : (dialect : Dialect) → Written dialect (is_sign signs.Assign)
+assign_written dialect = record { sign = signs.Assign; word = codes ":="; makes = assign_makes dialect; passes = λ more. refl; solid = λ more. refl; goes = sign_goes signs.Assign }
 
-pub arrow_makes : Makes signs.Arrow (codes "=>")
+pub arrow_makes : (dialect : Dialect) → Makes dialect signs.Arrow (codes "=>")
 unfolding tokens_behind piece_of solid_piece sign_of
-arrow_makes more = refl
+arrow_makes dialect more = refl
 
-pub arrow_written : Written (is_sign signs.Arrow)
-arrow_written = record { sign = signs.Arrow; word = codes "=>"; makes = arrow_makes; passes = λ more. refl; solid = λ more. refl; goes = sign_goes signs.Arrow }
+pub arrow_written : (dialect : Dialect) → Written dialect (is_sign signs.Arrow)
+arrow_written dialect = record { sign = signs.Arrow; word = codes "=>"; makes = arrow_makes dialect; passes = λ more. refl; solid = λ more. refl; goes = sign_goes signs.Arrow }
 
 abbrev pub an_address : List ℕ → List ℕ
 an_address more = written (codes "%I") more
 
-pub address_makes : Makes signs.Address (codes "%I")
+pub address_makes : (dialect : Dialect) → Makes dialect signs.Address (codes "%I")
 unfolding tokens_behind piece_of solid_piece
-address_makes more = refl
+address_makes dialect more = refl
 
-pub address_written : Written (is_sign signs.Address)
-address_written = record { sign = signs.Address; word = codes "%I"; makes = address_makes; passes = λ more. refl; solid = λ more. refl; goes = sign_goes signs.Address }
+pub address_written : (dialect : Dialect) → Written dialect (is_sign signs.Address)
+address_written dialect = record { sign = signs.Address; word = codes "%I"; makes = address_makes dialect; passes = λ more. refl; solid = λ more. refl; goes = sign_goes signs.Address }
 
 -- a line end
 abbrev pub a_break : List ℕ → List ℕ
 a_break more = written (10 ∷ []) more
 
-pub break_makes : Makes signs.Break (10 ∷ [])
+pub break_makes : (dialect : Dialect) → Makes dialect signs.Break (10 ∷ [])
 unfolding tokens_behind piece_of
-break_makes more = refl
+break_makes dialect more = refl
 
 abbrev pub a_name : List ℕ → List ℕ
 a_name more = written (codes "A") more
 
-pub name_makes : Makes signs.Name (codes "A")
+pub name_makes : (dialect : Dialect) → Makes dialect signs.Name (codes "A")
 unfolding tokens_behind piece_of solid_piece word_piece name_of is_well_spelled
-name_makes more = refl
+name_makes dialect more = refl
 
-pub name_written : Written (is_sign signs.Name)
-name_written = record { sign = signs.Name; word = codes "A"; makes = name_makes; passes = λ more. refl; solid = λ more. refl; goes = sign_goes signs.Name }
+pub name_written : (dialect : Dialect) → Written dialect (is_sign signs.Name)
+name_written dialect = record { sign = signs.Name; word = codes "A"; makes = name_makes dialect; passes = λ more. refl; solid = λ more. refl; goes = sign_goes signs.Name }
 
 abbrev pub a_truth : List ℕ → List ℕ
 a_truth more = written (codes "TRUE") more
 
-pub truth_makes : Makes signs.Name (codes "TRUE")
+pub truth_makes : (dialect : Dialect) → Makes dialect signs.Name (codes "TRUE")
 unfolding tokens_behind piece_of solid_piece word_piece name_of is_well_spelled
-truth_makes more = refl
+truth_makes dialect more = refl
 
-pub truth_written : Written (is_constant)
+pub truth_written : (dialect : Dialect) → Written dialect (is_constant)
 unfolding is_constant spells
-truth_written = record { sign = signs.Name; word = codes "TRUE"; makes = truth_makes; passes = λ more. refl; solid = λ more. refl; goes = constant_goes }
+truth_written dialect = record { sign = signs.Name; word = codes "TRUE"; makes = truth_makes dialect; passes = λ more. refl; solid = λ more. refl; goes = constant_goes }
 
 abbrev pub an_at : List ℕ → List ℕ
 an_at more = written (codes "AT") more
 
-pub at_makes : Makes signs.Name (codes "AT")
+pub at_makes : (dialect : Dialect) → Makes dialect signs.Name (codes "AT")
 unfolding tokens_behind piece_of solid_piece word_piece name_of is_well_spelled
-at_makes more = refl
+at_makes dialect more = refl
 
-pub at_written : Written (is_word_token (codes "AT"))
+pub at_written : (dialect : Dialect) → Written dialect (is_word_token (codes "AT"))
 unfolding spells
-at_written = record { sign = signs.Name; word = codes "AT"; makes = at_makes; passes = λ more. refl; solid = λ more. refl; goes = λ u is. name_goes u (spells (codes "AT") u.text) is }
+at_written dialect = record { sign = signs.Name; word = codes "AT"; makes = at_makes dialect; passes = λ more. refl; solid = λ more. refl; goes = λ u is. name_goes u (spells (codes "AT") u.text) is }
 
 abbrev pub an_end_var : List ℕ → List ℕ
 an_end_var more = written (codes "END_VAR") more
 
-pub end_var_makes : Makes signs.Name (codes "END_VAR")
+pub end_var_makes : (dialect : Dialect) → Makes dialect signs.Name (codes "END_VAR")
 unfolding tokens_behind piece_of solid_piece word_piece name_of is_well_spelled
-end_var_makes more = refl
+end_var_makes dialect more = refl
 
-pub end_var_written : Written (is_word_token (codes "END_VAR"))
+pub end_var_written : (dialect : Dialect) → Written dialect (is_word_token (codes "END_VAR"))
 unfolding spells
-end_var_written = record { sign = signs.Name; word = codes "END_VAR"; makes = end_var_makes; passes = λ more. refl; solid = λ more. refl; goes = λ u is. name_goes u (spells (codes "END_VAR") u.text) is }
+end_var_written dialect = record { sign = signs.Name; word = codes "END_VAR"; makes = end_var_makes dialect; passes = λ more. refl; solid = λ more. refl; goes = λ u is. name_goes u (spells (codes "END_VAR") u.text) is }
 
-pub var_makes : Makes signs.Name (codes "VAR")
+pub var_makes : (dialect : Dialect) → Makes dialect signs.Name (block_word dialect)
 unfolding tokens_behind piece_of solid_piece word_piece name_of is_well_spelled
-var_makes more = refl
+var_makes dialects.Plain more = refl
+var_makes dialects.Extended more = refl
 
-pub var_written : Written (is_word_token (codes "VAR"))
+pub var_written : (dialect : Dialect) → Written dialect (is_word_token (block_word dialect))
 unfolding spells
-var_written = record { sign = signs.Name; word = codes "VAR"; makes = var_makes; passes = λ more. refl; solid = λ more. refl; goes = λ u is. name_goes u (spells (codes "VAR") u.text) is }
+var_written dialects.Plain = record { sign = signs.Name; word = codes "VAR"; makes = var_makes dialects.Plain; passes = λ more. refl; solid = λ more. refl; goes = λ u is. name_goes u (spells (codes "VAR") u.text) is }
+var_written dialects.Extended = record { sign = signs.Name; word = codes "VAR_GLOBAL"; makes = var_makes dialects.Extended; passes = λ more. refl; solid = λ more. refl; goes = λ u is. name_goes u (spells (codes "VAR_GLOBAL") u.text) is }
 
-pub program_makes : Makes signs.Name (codes "PROGRAM")
+pub program_makes : (dialect : Dialect) → Makes dialect signs.Name (codes "PROGRAM")
 unfolding tokens_behind piece_of solid_piece word_piece name_of is_well_spelled
-program_makes more = refl
+program_makes dialect more = refl
 
-pub program_written : Written (is_word_token (codes "PROGRAM"))
+pub program_written : (dialect : Dialect) → Written dialect (is_word_token (codes "PROGRAM"))
 unfolding spells
-program_written = record { sign = signs.Name; word = codes "PROGRAM"; makes = program_makes; passes = λ more. refl; solid = λ more. refl; goes = λ u is. name_goes u (spells (codes "PROGRAM") u.text) is }
+program_written dialect = record { sign = signs.Name; word = codes "PROGRAM"; makes = program_makes dialect; passes = λ more. refl; solid = λ more. refl; goes = λ u is. name_goes u (spells (codes "PROGRAM") u.text) is }
 
 abbrev pub an_end_program : List ℕ → List ℕ
 an_end_program more = written (codes "END_PROGRAM") more
 
-pub end_program_makes : Makes signs.Name (codes "END_PROGRAM")
+pub end_program_makes : (dialect : Dialect) → Makes dialect signs.Name (codes "END_PROGRAM")
 unfolding tokens_behind piece_of solid_piece word_piece name_of is_well_spelled
-end_program_makes more = refl
+end_program_makes dialect more = refl
 
-pub end_program_written : Written (is_word_token (codes "END_PROGRAM"))
+pub end_program_written : (dialect : Dialect) → Written dialect (is_word_token (codes "END_PROGRAM"))
 unfolding spells
-end_program_written = record { sign = signs.Name; word = codes "END_PROGRAM"; makes = end_program_makes; passes = λ more. refl; solid = λ more. refl; goes = λ u is. name_goes u (spells (codes "END_PROGRAM") u.text) is }
+end_program_written dialect = record { sign = signs.Name; word = codes "END_PROGRAM"; makes = end_program_makes dialect; passes = λ more. refl; solid = λ more. refl; goes = λ u is. name_goes u (spells (codes "END_PROGRAM") u.text) is }
 
-pub variable_written : Written is_variable
+pub variable_written : (dialect : Dialect) → Written dialect is_variable
 unfolding spells
-variable_written = record { sign = signs.Name; word = codes "A"; makes = name_makes; passes = λ more. refl; solid = λ more. refl; goes = λ u is. name_goes u (not (is_truth u)) is }
+variable_written dialect = record { sign = signs.Name; word = codes "A"; makes = name_makes dialect; passes = λ more. refl; solid = λ more. refl; goes = λ u is. name_goes u (not (is_truth u)) is }
 
 -- behind the last byte stands the end
-pub end_makes : tokens_of [] ≡ no_token ∷ []
+pub end_makes : (dialect : Dialect) → tokens_of dialect [] ≡ no_token ∷ []
 unfolding tokens_behind
-end_makes = refl
+end_makes dialect = refl

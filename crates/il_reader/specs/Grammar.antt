@@ -1,10 +1,13 @@
 -- What a text says, and how the tokens in it are told apart, by IEC 61131-3:2003, Annex B.
 use Rattle.std.specs.Prelude.{ℕ, List, [], map, Option, Some, None, is_none, option_map, Bool, false, not, ◌||◌, ◌&&◌}
 use Rattle.std.specs.Prelude.{if◌then◌else◌, codes}
+use Rattle.il_model.specs.declared.dialect.Dialect.{Dialect}
+use Rattle.il_model.specs.declared.dialect.Dialect.TheVariants as dialects
 use Rattle.il_model.specs.declared.op.Op.{Op}
 use Rattle.il_model.specs.declared.op.Op.TheVariants as ops
 use Rattle.il_model.specs.declared.words.Mnemonic.{Mnemonic}
-use Rattle.il_model.specs.Words.{spells, mnemonic_of}
+use Rattle.il_model.specs.Words.{spells}
+use Rattle.il_model.specs.Dialects.{operator_in}
 use Rattle.il_reader.specs.declared.lexeme.Sign.TheVariants as signs
 use Rattle.il_reader.specs.declared.contents.Operator.{Operator}
 use Rattle.il_reader.specs.declared.contents.Operand.{Operand}
@@ -23,7 +26,7 @@ use Rattle.il_reader.specs.declared.contents.Names.{Names}
 use Rattle.il_reader.specs.declared.contents.Names.TheVariants as names
 use Rattle.il_reader.specs.declared.contents.Declaration.{Declaration}
 use Rattle.il_reader.specs.declared.contents.Contents.{Contents}
-use Rattle.il_reader.specs.Tokens.{Token, token}
+use Rattle.il_reader.specs.Tokens.{Token, token, tokens_of}
 use Rattle.il_reader.specs.Front.{first, others, is_sign, next_is, at_end, next_is_word, skip_breaks}
 
 -- ---- what a text says, without where it lies in memory
@@ -154,6 +157,7 @@ form_of ops.IntToDint = forms.Nothing
 form_of ops.DintToInt = forms.Nothing
 form_of ops.DintToLint = forms.Nothing
 form_of ops.LintToDint = forms.Nothing
+form_of (ops.Apply f) = forms.Nothing
 form_of op = forms.Either
 
 -- the right parenthesis
@@ -165,9 +169,9 @@ operator_from left None = None
 operator_from left (Some m) = Some (record { mnemonic = m; left = left })
 
 -- the operator that a token is
-unfoldable pub operator_of : Token → Option Operator
-operator_of t =
-    if is_sign signs.Name t || is_sign signs.Ampersand t then operator_from t.left (mnemonic_of t.text)
+unfoldable pub operator_of : Dialect → Token → Option Operator
+operator_of dialect t =
+    if is_sign signs.Name t || is_sign signs.Ampersand t then operator_from t.left (operator_in dialect t.text)
     else if is_sign signs.Close t then Some (record { mnemonic = closing; left = t.left })
     else None
 
@@ -206,12 +210,12 @@ abbrev pub no_open : List Token → Bool
 no_open ts = not (next_is signs.Open ts)
 
 -- label (B.2.1): a word before a colon, and also one that is no operator
-unfoldable pub is_label : List Token → Bool
-is_label ts =
-    next_is signs.Name ts && (next_is signs.Colon (others ts) || is_none (mnemonic_of (first ts).text))
+unfoldable pub is_label : Dialect → List Token → Bool
+is_label dialect ts =
+    next_is signs.Name ts && (next_is signs.Colon (others ts) || is_none (operator_in dialect (first ts).text))
 
-abbrev pub is_no_label : List Token → Bool
-is_no_label ts = not (is_label ts)
+abbrev pub is_no_label : Dialect → List Token → Bool
+is_no_label dialect ts = not (is_label dialect ts)
 
 unfoldable pub ends_lines : List Token → Bool
 ends_lines ts = at_end (skip_breaks ts)
@@ -229,8 +233,29 @@ no_value ts = not (next_is signs.Assign ts)
 unfoldable pub ends_block : List Token → Bool
 ends_block ts = next_is_word (codes "END_VAR") (skip_breaks ts)
 
-unfoldable pub ends_blocks : List Token → Bool
-ends_blocks ts = not (next_is_word (codes "VAR") (skip_breaks ts))
+-- the word that opens a block of declarations
+abbrev pub block_word : Dialect → List ℕ
+block_word dialects.Plain = codes "VAR"
+block_word dialects.Extended = codes "VAR_GLOBAL"
+
+-- a block begins: by VAR, or in an extended text by VAR_GLOBAL, which is a label where a colon follows
+abbrev pub begins_block : Dialect → List Token → Bool
+begins_block dialects.Plain ts = next_is_word (codes "VAR") ts
+begins_block dialects.Extended ts = next_is_word (codes "VAR_GLOBAL") ts && not (next_is signs.Colon (others ts))
+
+unfoldable pub ends_blocks : Dialect → List Token → Bool
+ends_blocks dialect ts = not (begins_block dialect (skip_breaks ts))
 
 unfoldable pub begins_program : List Token → Bool
 begins_program ts = next_is_word (codes "PROGRAM") (skip_breaks ts)
+
+-- ---- dialects
+
+-- a block of an extended text stands first
+unfoldable pub begins_extended : List Token → Bool
+begins_extended ts = begins_block dialects.Extended (skip_breaks ts)
+
+-- A text is extended where its first word says so. The words alone tell that, whatever the dialect makes of them.
+abbrev pub dialect_of : List ℕ → Dialect
+dialect_of bytes =
+    if begins_extended (tokens_of dialects.Plain bytes) then dialects.Extended else dialects.Plain

@@ -2,6 +2,7 @@
 use Rattle.std.specs.Prelude.{◌≡◌, ℕ, zero, suc, List, [], ◌∷◌, length, Option, Some, None, Result, Ok, Err, Bool, ◌<◌}
 use Rattle.std.specs.Prelude.{IfOk, if◌then◌else◌}
 use denote.Ref.{Bor}
+use Rattle.il_model.specs.declared.dialect.Dialect.{Dialect}
 use Rattle.il_reader.specs.declared.fault.FaultAt.{FaultAt}
 use Rattle.il_reader.specs.declared.fault.Failure.{Failure}
 use Rattle.il_reader.specs.declared.fault.Failure.TheVariants as failures
@@ -45,16 +46,20 @@ many stops item ts = many_within stops item (suc (length ts)) ts
 
 -- What a function took off the front of a text, seen by view, is what the reading takes of its tokens, and what it left
 -- are those that follow.
-abbrev pub Takes : {X Y : Type 0} → (X → Y) → Reading Y → List ℕ → Result (X × Bor (List ℕ)) Failure → Type 0
-Takes view reading bytes result = Gives (λ x. (view x.0, tokens_of x.1.now)) result (reading (tokens_of bytes))
+abbrev pub Takes : Dialect → {X Y : Type 0} → (X → Y) → Reading Y → List ℕ → Result (X × Bor (List ℕ)) Failure
+    → Type 0
+Takes dialect view reading bytes result =
+    Gives (λ x. (view x.0, tokens_of dialect x.1.now)) result (reading (tokens_of dialect bytes))
 
 -- the same of what only has to stand there
-abbrev pub Passes : Reading (Unit {0}) → List ℕ → Result (Bor (List ℕ)) Failure → Type 0
-Passes reading bytes result = Gives (λ x. (tt, tokens_of x.now)) result (reading (tokens_of bytes))
+abbrev pub Passes : Dialect → Reading (Unit {0}) → List ℕ → Result (Bor (List ℕ)) Failure → Type 0
+Passes dialect reading bytes result =
+    Gives (λ x. (tt, tokens_of dialect x.now)) result (reading (tokens_of dialect bytes))
 
 -- it left fewer tokens than there were
-abbrev pub LeavesFewer : {X : Type 0} → List ℕ → Result (X × Bor (List ℕ)) Failure → Type 0
-LeavesFewer bytes result = IfOk result (λ x. length (tokens_of x.1.now) < length (tokens_of bytes))
+abbrev pub LeavesFewer : Dialect → {X : Type 0} → List ℕ → Result (X × Bor (List ℕ)) Failure → Type 0
+LeavesFewer dialect bytes result =
+    IfOk result (λ x. length (tokens_of dialect x.1.now) < length (tokens_of dialect bytes))
 
 abbrev pub both : {X Y : Type 0} → X → Y → X × Y
 both x y = (x, y)

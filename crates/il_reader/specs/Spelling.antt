@@ -3,6 +3,7 @@
 use Rattle.std.specs.Prelude.{◌≡◌, List, [], ◌∷◌, ◌++◌, not, Bool, true, false, Option, Some, None, ℕ, codes}
 use Rattle.std.specs.Prelude.{if◌then◌else◌}
 use Rattle.std.specs.List.{flat_map}
+use Rattle.il_model.specs.declared.dialect.Dialect.{Dialect}
 use Rattle.il_reader.specs.declared.contents.Operator.{Operator}
 use Rattle.il_model.specs.declared.program.Side.{Side}
 use Rattle.il_model.specs.declared.program.Side.TheVariants as sides
@@ -12,6 +13,7 @@ use Rattle.il_reader.specs.declared.lexeme.Sign.{Sign}
 use Rattle.il_reader.specs.declared.lexeme.Sign.TheVariants as signs
 use Rattle.il_reader.specs.Tokens.{Token, tokens_of}
 use Rattle.il_reader.specs.Front.{skip_breaks, is_sign, is_word_token, next_is_word, at_end}
+use Rattle.il_reader.specs.Grammar.{block_word}
 use Rattle.il_reader.specs.Grammar.{OperandText, Constant, Direct, Named, Field, ArgumentText, CallText, no_dot}
 use Rattle.il_reader.specs.Grammar.{before_no_dot, before_close, ends_arguments, no_open, BehindText, Nothing, Given}
 use Rattle.il_reader.specs.Grammar.{Target, Opened, Called, OperationText, LineText, Labelled, Plain, NamesText}
@@ -116,8 +118,8 @@ accepting b None = None
 accepting b (Some o) = if accepts (form_of o.mnemonic.op) b then Some o else None
 
 -- the operator that a token is, where it takes this
-abbrev pub operator_before : BehindText → Token → Option Operator
-operator_before b t = accepting b (operator_of t)
+abbrev pub operator_before : Dialect → BehindText → Token → Option Operator
+operator_before dialect b t = accepting b (operator_of dialect t)
 
 -- what stands behind an il_simple_operator, an il_return_operator, an il_jump_operator, an il_expr_operator and
 -- an il_call_operator (B.2.2)
@@ -129,21 +131,21 @@ spelled_behind (Opened o) = sign signs.Open ∷ spelled_optional o
 spelled_behind (Called c) = spelled_call c
 
 -- il_simple_operation, il_expression, il_jump_operation, il_fb_call or il_return_operator (B.2.1)
-abbrev pub spelled_operation : OperationText → List Part
-spelled_operation o = operator (operator_before o.behind) o.operator ∷ spelled_behind o.behind
+abbrev pub spelled_operation : Dialect → OperationText → List Part
+spelled_operation dialect o = operator (operator_before dialect o.behind) o.operator ∷ spelled_behind o.behind
 
-abbrev pub spelled_optional_operation : Option OperationText → List Part
-spelled_optional_operation None = ahead is_line_stop ∷ []
-spelled_optional_operation (Some o) = spelled_operation o
+abbrev pub spelled_optional_operation : Dialect → Option OperationText → List Part
+spelled_optional_operation dialect None = ahead is_line_stop ∷ []
+spelled_optional_operation dialect (Some o) = spelled_operation dialect o
 
 -- label ':' and what may follow it, or an operation (B.2.1)
-abbrev pub spelled_content : LineText → List Part
-spelled_content (Labelled t o) = name t ∷ sign signs.Colon ∷ spelled_optional_operation o
-spelled_content (Plain o) = ahead is_no_label ∷ spelled_operation o
+abbrev pub spelled_content : Dialect → LineText → List Part
+spelled_content dialect (Labelled t o) = name t ∷ sign signs.Colon ∷ spelled_optional_operation dialect o
+spelled_content dialect (Plain o) = ahead (is_no_label dialect) ∷ spelled_operation dialect o
 
 -- il_instruction (B.2.1)
-abbrev pub spelled_line : LineText → List Part
-spelled_line l = breaks ∷ (spelled_content l ++ ahead is_line_stop ∷ [])
+abbrev pub spelled_line : Dialect → LineText → List Part
+spelled_line dialect l = breaks ∷ (spelled_content dialect l ++ ahead is_line_stop ∷ [])
 
 -- ---- declarations
 
@@ -182,9 +184,9 @@ abbrev pub listed : {X : Type 0} → (List Token → Bool) → (X → List Part)
 listed stops s xs = flat_map (going stops s) xs ++ ahead stops ∷ []
 
 -- var_declarations and located_var_declarations, which may stand in one block (B.1.4.3)
-abbrev pub spelled_block : List DeclarationText → List Part
-spelled_block ds =
-    breaks ∷ word (codes "VAR")
+abbrev pub spelled_block : Dialect → List DeclarationText → List Part
+spelled_block dialect ds =
+    breaks ∷ word (block_word dialect)
     ∷ (listed ends_block spelled_declaration ds ++ breaks ∷ word (codes "END_VAR") ∷ [])
 
 -- ---- programs
@@ -193,30 +195,30 @@ abbrev pub is_bare : List Token → Bool
 is_bare ts = not (begins_program ts)
 
 -- program_declaration (B.1.5.3)
-abbrev pub spelled_named : Token → ProgramText → List Part
-spelled_named t s =
+abbrev pub spelled_named : Dialect → Token → ProgramText → List Part
+spelled_named dialect t s =
     breaks ∷ word (codes "PROGRAM") ∷ name t
-    ∷ (listed ends_blocks spelled_block s.blocks
-    ++ (listed ends_named spelled_line s.lines
+    ∷ (listed (ends_blocks dialect) (spelled_block dialect) s.blocks
+    ++ (listed ends_named (spelled_line dialect) s.lines
     ++ breaks ∷ word (codes "END_PROGRAM") ∷ breaks ∷ ahead at_end ∷ []))
 
 -- the same without the words around it: declarations and an instruction_list (B.2.1)
-abbrev pub spelled_bare : ProgramText → List Part
-spelled_bare s =
-    listed ends_blocks spelled_block s.blocks
-    ++ (listed ends_lines spelled_line s.lines ++ breaks ∷ ahead at_end ∷ [])
+abbrev pub spelled_bare : Dialect → ProgramText → List Part
+spelled_bare dialect s =
+    listed (ends_blocks dialect) (spelled_block dialect) s.blocks
+    ++ (listed ends_lines (spelled_line dialect) s.lines ++ breaks ∷ ahead at_end ∷ [])
 
-abbrev pub spelled_by : Option Token → ProgramText → List Part
-spelled_by None s = ahead is_bare ∷ spelled_bare s
-spelled_by (Some t) s = spelled_named t s
+abbrev pub spelled_by : Dialect → Option Token → ProgramText → List Part
+spelled_by dialect None s = ahead is_bare ∷ spelled_bare dialect s
+spelled_by dialect (Some t) s = spelled_named dialect t s
 
-abbrev pub spelled_program : ProgramText → List Part
-spelled_program s = spelled_by s.name s
+abbrev pub spelled_program : Dialect → ProgramText → List Part
+spelled_program dialect s = spelled_by dialect s.name s
 
 -- the tokens say this, from the first to the last
-abbrev pub SaysTokens : List Token → ProgramText → Type 0
-SaysTokens tokens s = (rest : List Token) × Spell (spelled_program s) tokens rest
+abbrev pub SaysTokens : Dialect → List Token → ProgramText → Type 0
+SaysTokens dialect tokens s = (rest : List Token) × Spell (spelled_program dialect s) tokens rest
 
 -- the text says this
-abbrev pub Says : List ℕ → ProgramText → Type 0
-Says bytes s = SaysTokens (tokens_of bytes) s
+abbrev pub Says : Dialect → List ℕ → ProgramText → Type 0
+Says dialect bytes s = SaysTokens dialect (tokens_of dialect bytes) s

@@ -9,7 +9,7 @@ use Rattle.il_reader.specs.declared.fault.ReadError.{ReadError}
 use Rattle.il_reader.specs.declared.contents.Contents.{Contents}
 use Rattle.il_reader.specs.declared.fault.FaultKind.TheVariants as kinds
 use Rattle.il_reader.specs.declared.fault.ReadError.TheVariants as errors
-use Rattle.il_reader.specs.Grammar.{ProgramText, program_text}
+use Rattle.il_reader.specs.Grammar.{dialect_of, ProgramText, program_text}
 use Rattle.il_reader.specs.Spelling.{Says}
 
 -- ---- lines and columns, counted from 1
@@ -40,7 +40,7 @@ source_text text contents = record { text = text; says = program_text contents }
 -- a text is short enough, and it says this
 pub record IsSource (s : SourceText) : Type 0 where
   pub short : length s.text ≤ TEXT_LIMIT
-  pub said : Says s.text s.says
+  pub said : Says (dialect_of s.text) s.text s.says
 
 abbrev pub Reads : List ℕ → SourceText → Type 0
 Reads bytes s = (s.text ≡ bytes) × IsSource s

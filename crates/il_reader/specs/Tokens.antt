@@ -2,9 +2,10 @@
 use Rattle.std.specs.Prelude.{ℕ, zero, suc, ◌+◌, ◌-◌, Bool, true, false, ◌&&◌, ◌||◌, List, [], ◌∷◌, length, take, drop}
 use Rattle.std.specs.Prelude.{Option, Some, None, is_some, nat_lt, nat_le, ◌==◌, if◌then◌else◌}
 use Rattle.std.specs.List.{prefix_len}
+use Rattle.il_model.specs.declared.dialect.Dialect.{Dialect}
 use Rattle.il_model.specs.declared.limits.TheConstants.{LONGEST_NAME}
 use Rattle.il_model.specs.Words.{is_well_spelled}
-use Rattle.il_model.specs.Literals.{literal_of}
+use Rattle.il_model.specs.Dialects.{literal_in}
 use Rattle.il_reader.specs.declared.fault.FaultKind.TheVariants.{BadByte, BadToken, BadLiteral, UnclosedComment}
 use Rattle.il_reader.specs.declared.fault.FaultKind.TheVariants.{TooLong}
 use Rattle.il_reader.specs.declared.lexeme.Piece.{Piece}
@@ -67,13 +68,15 @@ comment_piece None = broken UnclosedComment
 comment_piece (Some n) = blank (2 + n)
 
 -- a literal, where the text is one
-unfoldable pub literal_piece : List ℕ → Piece
-literal_piece text = if is_some (literal_of text) then sign signs.Literal (length text) else broken BadLiteral
+unfoldable pub literal_piece : Dialect → List ℕ → Piece
+literal_piece dialect text =
+    if is_some (literal_in dialect text) then sign signs.Literal (length text) else broken BadLiteral
 
-unfoldable pub word_piece : List ℕ → Piece
-word_piece bytes =
+unfoldable pub word_piece : Dialect → List ℕ → Piece
+word_piece dialect bytes =
     let n = 1 + prefix_len is_word_byte (drop 1 bytes) in
-    if begins_with 35 (drop n bytes) then literal_piece (take (1 + prefix_len is_literal_byte (drop 1 bytes)) bytes)
+    if begins_with 35 (drop n bytes)
+    then literal_piece dialect (take (1 + prefix_len is_literal_byte (drop 1 bytes)) bytes)
     else name_of (take n bytes)
 
 -- the byte is in no word and begins no literal behind one
@@ -105,21 +108,21 @@ is_number_start b = is_within 48 57 b || b == 43 || b == 45
 abbrev pub is_blank_byte : ℕ → Bool
 is_blank_byte b = b == 32 || b == 9 || b == 13
 
-unfoldable pub solid_piece : List ℕ → Piece
-solid_piece [] = end
-solid_piece (b ∷ bs) =
-    if is_letter_byte b then word_piece (b ∷ bs)
-    else if is_number_start b then literal_piece (take (1 + prefix_len is_literal_byte bs) (b ∷ bs))
+unfoldable pub solid_piece : Dialect → List ℕ → Piece
+solid_piece dialect [] = end
+solid_piece dialect (b ∷ bs) =
+    if is_letter_byte b then word_piece dialect (b ∷ bs)
+    else if is_number_start b then literal_piece dialect (take (1 + prefix_len is_literal_byte bs) (b ∷ bs))
     else if b == 37 then sign signs.Address (1 + prefix_len is_address_byte bs)
     else sign_of b bs
 
-unfoldable pub piece_of : List ℕ → Piece
-piece_of [] = end
-piece_of (b ∷ bs) =
+unfoldable pub piece_of : Dialect → List ℕ → Piece
+piece_of dialect [] = end
+piece_of dialect (b ∷ bs) =
     if b == 10 then sign signs.Break 1
     else if is_blank_byte b then blank 1
     else if b == 40 && begins_with 42 bs then comment_piece (comment_len (drop 1 bs))
-    else solid_piece (b ∷ bs)
+    else solid_piece dialect (b ∷ bs)
 
 -- a token: what it is, its bytes, and how many bytes the text has from its first one on
 pub record Token : Type 0 where
@@ -148,15 +151,15 @@ put None text left ts = ts
 put (Some c) text left ts = joined (record { class = c; text = text; left = left }) ts
 
 -- The tokens of a text, of whose first bytes so many belong to a token that has been put already.
-unfoldable pub tokens_behind : ℕ → List ℕ → List Token
-tokens_behind k [] = record { class = classes.End; text = []; left = 0 } ∷ []
-tokens_behind (suc k) (b ∷ bs) = tokens_behind k bs
-tokens_behind zero (b ∷ bs) =
-    let p = piece_of (b ∷ bs) in
-    put p.class (take p.len (b ∷ bs)) (length (b ∷ bs)) (tokens_behind (p.len - 1) bs)
+unfoldable pub tokens_behind : Dialect → ℕ → List ℕ → List Token
+tokens_behind dialect k [] = record { class = classes.End; text = []; left = 0 } ∷ []
+tokens_behind dialect (suc k) (b ∷ bs) = tokens_behind dialect k bs
+tokens_behind dialect zero (b ∷ bs) =
+    let p = piece_of dialect (b ∷ bs) in
+    put p.class (take p.len (b ∷ bs)) (length (b ∷ bs)) (tokens_behind dialect (p.len - 1) bs)
 
-abbrev pub tokens_of : List ℕ → List Token
-tokens_of bytes = tokens_behind 0 bytes
+abbrev pub tokens_of : Dialect → List ℕ → List Token
+tokens_of dialect bytes = tokens_behind dialect 0 bytes
 
 abbrev pub token : Lexeme → Token
 token t = record { class = t.class; text = t.text.now; left = t.left }

@@ -2,6 +2,7 @@
 -- read, or the first fault that is met. No public clause cites it: what `read` answers is said by Texts and FirstFault.
 use Rattle.std.specs.Prelude.{ℕ, List, [], ◌∷◌, length, Option, Some, None, Result, Ok, Err, Bool, nat_lt}
 use Rattle.std.specs.Prelude.{if◌then◌else◌, codes}
+use Rattle.il_model.specs.declared.dialect.Dialect.{Dialect}
 use Rattle.il_reader.specs.declared.source.TheConstants.{TEXT_LIMIT}
 use Rattle.il_reader.specs.declared.fault.FaultAt.{FaultAt}
 use Rattle.il_reader.specs.declared.fault.Fault.{Fault}
@@ -15,6 +16,7 @@ use Rattle.il_reader.specs.Tokens.{Token, tokens_of}
 use Rattle.il_reader.specs.Front.{first, others, fault_at, next_is, at_end, next_is_word}
 use Rattle.il_reader.specs.Reading.{◌>>=◌, expect, keyword, meaning, many, Reading, pair, led, closed, mapped, choice}
 use Rattle.il_reader.specs.Reading.{past, mark, stand}
+use Rattle.il_reader.specs.Grammar.{dialect_of, block_word}
 use Rattle.il_reader.specs.Grammar.{OperandText, ArgumentText, CallText, BehindText, OperationText, LineText, NamesText}
 use Rattle.il_reader.specs.Grammar.{DeclarationText, ProgramText, form_of, operator_of, is_variable, is_constant}
 use Rattle.il_reader.specs.Grammar.{no_dot, before_dot, before_no_dot, is_line_stop, ends_arguments, before_close}
@@ -28,8 +30,8 @@ use Rattle.il_reader.specs.Texts.{SourceText, placed, too_long}
 abbrev pub next_is_variable : List Token → Bool
 next_is_variable ts = is_variable (first ts)
 
-unfoldable pub operator_at : Reading Operator
-operator_at ts = meaning operator_of ts
+unfoldable pub operator_at : Dialect → Reading Operator
+operator_at dialect ts = meaning (operator_of dialect) ts
 
 unfoldable pub variable_at : Reading Token
 variable_at ts = if is_variable (first ts) then Ok (first ts, others ts) else Err (fault_at (first ts))
@@ -147,33 +149,33 @@ behind_at forms.Either ts = either_at ts
 behind_at forms.Call ts = mapped Called call_at ts
 
 -- il_simple_operation, il_expression, il_jump_operation, il_fb_call or il_return_operator (B.2.1)
-unfoldable pub operation_at : Reading OperationText
-operation_at ts = do
-  operator ← operator_at ts
+unfoldable pub operation_at : Dialect → Reading OperationText
+operation_at dialect ts = do
+  operator ← operator_at dialect ts
   behind ← behind_at (form_of operator.0.mnemonic.op) operator.1
   Ok (record { operator = operator.0; behind = behind.0 }, behind.1)
 
-unfoldable pub optional_operation_at : Reading (Option OperationText)
-optional_operation_at ts = choice is_line_stop (stand is_line_stop None) (mapped Some operation_at) ts
+unfoldable pub optional_operation_at : Dialect → Reading (Option OperationText)
+optional_operation_at dialect ts = choice is_line_stop (stand is_line_stop None) (mapped Some (operation_at dialect)) ts
 
 abbrev pub labelled : Token × Option OperationText → LineText
 labelled (label, operation) = Labelled label operation
 
 -- label ':' and what may follow it in an il_instruction (B.2.1)
-unfoldable pub labelled_at : Reading LineText
-labelled_at ts = mapped labelled
+unfoldable pub labelled_at : Dialect → Reading LineText
+labelled_at dialect ts = mapped labelled
     (pair (expect signs.Name)
-    (led (mark (expect signs.Colon)) optional_operation_at)) ts
+    (led (mark (expect signs.Colon)) (optional_operation_at dialect))) ts
 
-unfoldable pub plain_at : Reading LineText
-plain_at ts = mapped Plain operation_at ts
+unfoldable pub plain_at : Dialect → Reading LineText
+plain_at dialect ts = mapped Plain (operation_at dialect) ts
 
-unfoldable pub either_line_at : Reading LineText
-either_line_at ts = choice is_label labelled_at plain_at ts
+unfoldable pub either_line_at : Dialect → Reading LineText
+either_line_at dialect ts = choice (is_label dialect) (labelled_at dialect) (plain_at dialect) ts
 
 -- il_instruction (B.2.1)
-unfoldable pub line_at : Reading LineText
-line_at ts = closed (past either_line_at) (stand is_line_stop tt) ts
+unfoldable pub line_at : Dialect → Reading LineText
+line_at dialect ts = closed (past (either_line_at dialect)) (stand is_line_stop tt) ts
 
 -- ---- declarations
 
@@ -208,9 +210,9 @@ declaration_at ts = mapped declared
     (closed (past initial_at) (past (mark (expect signs.Semicolon)))))))) ts
 
 -- var_declarations and located_var_declarations, which may stand in one block (B.1.4.3)
-unfoldable pub block_at : Reading (List DeclarationText)
-block_at ts =
-    led (past (keyword (codes "VAR")))
+unfoldable pub block_at : Dialect → Reading (List DeclarationText)
+block_at dialect ts =
+    led (past (keyword (block_word dialect)))
     (closed (many ends_block declaration_at) (past (keyword (codes "END_VAR")))) ts
 
 -- ---- programs
@@ -229,23 +231,23 @@ unfoldable pub finish_at : Reading (Unit {0})
 finish_at ts = led (past (keyword (codes "END_PROGRAM"))) (past end_at) ts
 
 -- program_declaration (B.1.5.3)
-unfoldable pub named_at : Reading ProgramText
-named_at ts =
+unfoldable pub named_at : Dialect → Reading ProgramText
+named_at dialect ts =
     led (past (keyword (codes "PROGRAM")))
     (mapped named_program
     (pair (expect signs.Name)
-    (pair (many ends_blocks block_at) (closed (many ends_named line_at) finish_at)))) ts
+    (pair (many (ends_blocks dialect) (block_at dialect)) (closed (many ends_named (line_at dialect)) finish_at)))) ts
 
 -- the same without the words around it: declarations and an instruction_list (B.2.1)
-unfoldable pub bare_at : Reading ProgramText
-bare_at ts = mapped bare_program
-    (pair (many ends_blocks block_at) (closed (many ends_lines line_at) (past end_at))) ts
+unfoldable pub bare_at : Dialect → Reading ProgramText
+bare_at dialect ts = mapped bare_program
+    (pair (many (ends_blocks dialect) (block_at dialect)) (closed (many ends_lines (line_at dialect)) (past end_at))) ts
 
-unfoldable pub program_at : Reading ProgramText
-program_at ts = choice begins_program named_at bare_at ts
+unfoldable pub program_at : Dialect → Reading ProgramText
+program_at dialect ts = choice begins_program (named_at dialect) (bare_at dialect) ts
 
-unfoldable pub text_of : List ℕ → Result ProgramText FaultAt
-text_of bytes = program_at (tokens_of bytes) >>= λ x. Ok x.0
+unfoldable pub text_of : Dialect → List ℕ → Result ProgramText FaultAt
+text_of dialect bytes = program_at dialect (tokens_of dialect bytes) >>= λ x. Ok x.0
 
 -- ---- a text as a whole
 
@@ -255,4 +257,5 @@ told bytes (Err f) = Err (placed bytes f)
 
 -- a text over the limit is too long at its first byte, whatever it says
 abbrev pub source_of : List ℕ → Result SourceText Fault
-source_of bytes = if nat_lt TEXT_LIMIT (length bytes) then Err too_long else told bytes (text_of bytes)
+source_of bytes =
+    if nat_lt TEXT_LIMIT (length bytes) then Err too_long else told bytes (text_of (dialect_of bytes) bytes)

@@ -1,6 +1,7 @@
 -- What the names and the operators of a text are, whatever it says.
 use Rattle.std.specs.Prelude.{◌≡◌, ℕ, ◌<◌, ◌≤◌, Bool, true, false, List, [], ◌∷◌, length, Option, Some, None}
 use Rattle.std.specs.List.{AllByRecursion, list_all}
+use Rattle.il_model.specs.declared.dialect.Dialect.{Dialect}
 use Rattle.il_model.specs.declared.limits.TheConstants.{LONGEST_NAME}
 use Rattle.il_model.specs.Words.{is_well_spelled}
 use Rattle.il_reader.specs.Tokens.{Token, is_letter_byte, is_word_byte}
@@ -32,19 +33,19 @@ pub record IsWordDeclaration (d : DeclarationText) : Type 0 where
   pub names : AreWordNames d.names
 
 -- an operation whose operator some token is
-abbrev pub IsOperation : OperationText → Type 0
-IsOperation o = (t : Token) × (operator_before o.behind t ≡ Some o.operator)
+abbrev pub IsOperation : Dialect → OperationText → Type 0
+IsOperation dialect o = (t : Token) × (operator_before dialect o.behind t ≡ Some o.operator)
 
-abbrev pub IsOptionalOperation : Option OperationText → Type 0
-IsOptionalOperation None = Unit {0}
-IsOptionalOperation (Some o) = IsOperation o
+abbrev pub IsOptionalOperation : Dialect → Option OperationText → Type 0
+IsOptionalOperation dialect None = Unit {0}
+IsOptionalOperation dialect (Some o) = IsOperation dialect o
 
 -- a label is a name
-abbrev pub IsOperator : LineText → Type 0
-IsOperator (Labelled t o) = IsWordText t.text × IsOptionalOperation o
-IsOperator (Plain o) = IsOperation o
+abbrev pub IsOperator : Dialect → LineText → Type 0
+IsOperator dialect (Labelled t o) = IsWordText t.text × IsOptionalOperation dialect o
+IsOperator dialect (Plain o) = IsOperation dialect o
 
 -- the names of declarations and labels are names, and each operation has an operator that takes what stands behind it
-pub record AreWords (p : ProgramText) : Type 0 where
+pub record AreWords (dialect : Dialect) (p : ProgramText) : Type 0 where
   pub blocks : AllByRecursion (AllByRecursion IsWordDeclaration) p.blocks
-  pub lines : AllByRecursion IsOperator p.lines
+  pub lines : AllByRecursion (IsOperator dialect) p.lines

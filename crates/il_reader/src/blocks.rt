@@ -8,19 +8,21 @@ ghost use Rattle.il_reader.specs.Grammar.{ends_blocks};
 ghost use Rattle.il_reader.specs.Walk.{name_at, names_at, initial_at, declaration_at, block_at};
 
 use crate::contents::{Declaration, Names};
+use crate::dialect::{begins_block, block_word};
 use crate::fault::Failure;
 use crate::lexeme::{Lexeme, Sign, next};
 use crate::lists::{Listed, many};
 use crate::operands::constant_read;
 use crate::reading::{expected, is, is_word, past_breaks, past_keyword};
+use il_model::Dialect;
 use std::alloc::Global;
 
 #[tactic(auto, unfolding(crate::specs::Walk::name_at))]
-fn name_read(bytes: &[u8]) -> Result<(Lexeme<'_>, &[u8]), Failure>
-    ensures { Takes token name_at bytes.now result }
+fn name_read(dialect: Dialect, bytes: &[u8]) -> Result<(Lexeme<'_>, &[u8]), Failure>
+    ensures { Takes dialect token name_at bytes.now result }
 {
-    let (_, rest) = expected(Sign::Comma, past_breaks(bytes))?;
-    expected(Sign::Name, past_breaks(rest))
+    let (_, rest) = expected(dialect, Sign::Comma, past_breaks(dialect, bytes))?;
+    expected(dialect, Sign::Name, past_breaks(dialect, rest))
 }
 
 struct MoreNames;
@@ -32,46 +34,50 @@ impl<'a> Listed<'a> for MoreNames {
 
     ghost said = { λ t. token t };
 
-    ghost ends = { ends_names };
+    ghost ends = { λ dialect. ends_names };
 
-    ghost item_at = { name_at };
+    ghost item_at = { λ dialect. name_at };
 
     #[tactic(auto, unfolding(crate::specs::Grammar::ends_names))]
-    fn stops(bytes: &[u8]) -> bool
-        ensures { result ≡ ends_names (tokens_of bytes.now) }
+    fn stops(dialect: Dialect, bytes: &[u8]) -> bool
+        ensures { result ≡ ends_names (tokens_of dialect bytes.now) }
     {
-        let (t, _) = next(past_breaks(bytes));
+        let (t, _) = next(dialect, past_breaks(dialect, bytes));
         !is(Sign::Comma, t)
     }
 
-    fn item(_alloc: Global, bytes: &'a [u8]) -> Result<(Lexeme<'a>, &'a [u8]), Failure> {
-        name_read(bytes)
+    fn item(
+        dialect: Dialect,
+        _alloc: Global,
+        bytes: &'a [u8],
+    ) -> Result<(Lexeme<'a>, &'a [u8]), Failure> {
+        name_read(dialect, bytes)
     }
 }
 
 #[tactic(auto, unfolding(crate::specs::Walk::names_at))]
-fn names(alloc: Global, bytes: &[u8]) -> Result<(Names<'_>, &[u8]), Failure>
-    ensures { Takes names_of names_at bytes.now result }
+fn names(dialect: Dialect, alloc: Global, bytes: &[u8]) -> Result<(Names<'_>, &[u8]), Failure>
+    ensures { Takes dialect names_of names_at bytes.now result }
 {
-    let (t, _) = next(bytes);
+    let (t, _) = next(dialect, bytes);
     if is_word(b"AT", t) {
-        let rest = past_keyword(b"AT", bytes)?;
-        let (address, rest) = expected(Sign::Address, past_breaks(rest))?;
+        let rest = past_keyword(dialect, b"AT", bytes)?;
+        let (address, rest) = expected(dialect, Sign::Address, past_breaks(dialect, rest))?;
         Ok((Names::Located(address), rest))
     } else {
-        let (more, rest) = many::<MoreNames>(alloc, bytes)?;
+        let (more, rest) = many::<MoreNames>(dialect, alloc, bytes)?;
         Ok((Names::More(more), rest))
     }
 }
 
 #[tactic(auto, unfolding(crate::specs::Walk::initial_at))]
-fn initial(bytes: &[u8]) -> Result<(Option<Lexeme<'_>>, &[u8]), Failure>
-    ensures { Takes (option_map token) initial_at bytes.now result }
+fn initial(dialect: Dialect, bytes: &[u8]) -> Result<(Option<Lexeme<'_>>, &[u8]), Failure>
+    ensures { Takes dialect (option_map token) initial_at bytes.now result }
 {
-    let (t, _) = next(bytes);
+    let (t, _) = next(dialect, bytes);
     if is(Sign::Assign, t) {
-        let (_, rest) = expected(Sign::Assign, bytes)?;
-        let (value, rest) = constant_read(past_breaks(rest))?;
+        let (_, rest) = expected(dialect, Sign::Assign, bytes)?;
+        let (value, rest) = constant_read(dialect, past_breaks(dialect, rest))?;
         Ok((Some(value), rest))
     } else {
         Ok((None, bytes))
@@ -79,15 +85,19 @@ fn initial(bytes: &[u8]) -> Result<(Option<Lexeme<'_>>, &[u8]), Failure>
 }
 
 #[tactic(auto, unfolding(crate::specs::Walk::declaration_at))]
-fn declared(alloc: Global, bytes: &[u8]) -> Result<(Declaration<'_>, &[u8]), Failure>
-    ensures { Takes declaration declaration_at bytes.now result }
+fn declared(
+    dialect: Dialect,
+    alloc: Global,
+    bytes: &[u8],
+) -> Result<(Declaration<'_>, &[u8]), Failure>
+    ensures { Takes dialect declaration declaration_at bytes.now result }
 {
-    let (name, rest) = expected(Sign::Name, past_breaks(bytes))?;
-    let (names, rest) = names(alloc, past_breaks(rest))?;
-    let (_, rest) = expected(Sign::Colon, past_breaks(rest))?;
-    let (ty, rest) = expected(Sign::Name, past_breaks(rest))?;
-    let (initial, rest) = initial(past_breaks(rest))?;
-    let (_, rest) = expected(Sign::Semicolon, past_breaks(rest))?;
+    let (name, rest) = expected(dialect, Sign::Name, past_breaks(dialect, bytes))?;
+    let (names, rest) = names(dialect, alloc, past_breaks(dialect, rest))?;
+    let (_, rest) = expected(dialect, Sign::Colon, past_breaks(dialect, rest))?;
+    let (ty, rest) = expected(dialect, Sign::Name, past_breaks(dialect, rest))?;
+    let (initial, rest) = initial(dialect, past_breaks(dialect, rest))?;
+    let (_, rest) = expected(dialect, Sign::Semicolon, past_breaks(dialect, rest))?;
     Ok((
         Declaration {
             name,
@@ -108,30 +118,38 @@ impl<'a> Listed<'a> for Declarations {
 
     ghost said = { declaration };
 
-    ghost ends = { ends_block };
+    ghost ends = { λ dialect. ends_block };
 
-    ghost item_at = { declaration_at };
+    ghost item_at = { λ dialect. declaration_at };
 
     #[tactic(auto, unfolding(crate::specs::Grammar::ends_block))]
-    fn stops(bytes: &[u8]) -> bool
-        ensures { result ≡ ends_block (tokens_of bytes.now) }
+    fn stops(dialect: Dialect, bytes: &[u8]) -> bool
+        ensures { result ≡ ends_block (tokens_of dialect bytes.now) }
     {
-        let (t, _) = next(past_breaks(bytes));
+        let (t, _) = next(dialect, past_breaks(dialect, bytes));
         is_word(b"END_VAR", t)
     }
 
-    fn item(alloc: Global, bytes: &'a [u8]) -> Result<(Declaration<'a>, &'a [u8]), Failure> {
-        declared(alloc, bytes)
+    fn item(
+        dialect: Dialect,
+        alloc: Global,
+        bytes: &'a [u8],
+    ) -> Result<(Declaration<'a>, &'a [u8]), Failure> {
+        declared(dialect, alloc, bytes)
     }
 }
 
 #[tactic(auto, unfolding(crate::specs::Walk::block_at))]
-fn block(alloc: Global, bytes: &[u8]) -> Result<(Vec<Declaration<'_>>, &[u8]), Failure>
-    ensures { Takes (λ xs. declarations xs.items) block_at bytes.now result }
+fn block(
+    dialect: Dialect,
+    alloc: Global,
+    bytes: &[u8],
+) -> Result<(Vec<Declaration<'_>>, &[u8]), Failure>
+    ensures { Takes dialect (λ xs. declarations xs.items) (block_at dialect) bytes.now result }
 {
-    let rest = past_keyword(b"VAR", past_breaks(bytes))?;
-    let (found, rest) = many::<Declarations>(alloc, rest)?;
-    let rest = past_keyword(b"END_VAR", past_breaks(rest))?;
+    let rest = past_keyword(dialect, block_word(dialect), past_breaks(dialect, bytes))?;
+    let (found, rest) = many::<Declarations>(dialect, alloc, rest)?;
+    let rest = past_keyword(dialect, b"END_VAR", past_breaks(dialect, rest))?;
     Ok((found, rest))
 }
 
@@ -150,14 +168,17 @@ impl<'a> Listed<'a> for Blocks {
     ghost item_at = { block_at };
 
     #[tactic(auto, unfolding(crate::specs::Grammar::ends_blocks))]
-    fn stops(bytes: &[u8]) -> bool
-        ensures { result ≡ ends_blocks (tokens_of bytes.now) }
+    fn stops(dialect: Dialect, bytes: &[u8]) -> bool
+        ensures { result ≡ ends_blocks dialect (tokens_of dialect bytes.now) }
     {
-        let (t, _) = next(past_breaks(bytes));
-        !is_word(b"VAR", t)
+        !begins_block(dialect, bytes)
     }
 
-    fn item(alloc: Global, bytes: &'a [u8]) -> Result<(Vec<Declaration<'a>>, &'a [u8]), Failure> {
-        block(alloc, bytes)
+    fn item(
+        dialect: Dialect,
+        alloc: Global,
+        bytes: &'a [u8],
+    ) -> Result<(Vec<Declaration<'a>>, &'a [u8]), Failure> {
+        block(dialect, alloc, bytes)
     }
 }

@@ -8,7 +8,7 @@ ghost use Rattle.il_reader.specs.Tokens.{comment_len, comment_piece, piece_of, b
 ghost use Rattle.il_reader.specs.Tokens.{tokens_of, token};
 
 use crate::fault::FaultKind;
-use il_model::{LONGEST_NAME, is_well_spelled, literal_from};
+use il_model::{Dialect, LONGEST_NAME, is_well_spelled};
 
 /// What the grammar asks for: a line end, a name, a literal, an address, or one of the language's marks.
 #[derive(Clone, Copy, PartialEq, Eq)]
@@ -176,13 +176,13 @@ fn name_piece(name: &[u8]) -> Piece
 }
 
 #[tactic(auto, unfolding(crate::specs::Tokens::literal_piece))]
-fn judged_literal(text: &[u8]) -> Piece
+fn judged_literal(dialect: Dialect, text: &[u8]) -> Piece
     requires { 0 < length text.now }
-    ensures value { result ≡ literal_piece text.now }
+    ensures value { result ≡ literal_piece dialect text.now }
     ensures fits { result.len ≤ length text.now }
     ensures moves { 0 < result.len }
 {
-    if literal_from(text).is_some() {
+    if dialect.literal(text).is_some() {
         Piece::sign(Sign::Literal, text.len())
     } else {
         Piece::broken(FaultKind::BadLiteral)
@@ -190,15 +190,15 @@ fn judged_literal(text: &[u8]) -> Piece
 }
 
 #[tactic(auto, unfolding(crate::specs::Tokens::word_piece))]
-fn word_at(bytes: &[u8]) -> Piece
+fn word_at(dialect: Dialect, bytes: &[u8]) -> Piece
     requires { 0 < length bytes.now }
-    ensures value { result ≡ word_piece bytes.now }
+    ensures value { result ≡ word_piece dialect bytes.now }
     ensures fits { result.len ≤ length bytes.now }
     ensures moves { 0 < result.len }
 {
     let (name, others) = bytes.split_at(1 + word_len(&bytes[1..]));
     if starts_with(others, b'#') {
-        judged_literal(&bytes[..1 + literal_len(&bytes[1..])])
+        judged_literal(dialect, &bytes[..1 + literal_len(&bytes[1..])])
     } else {
         name_piece(name)
     }
@@ -258,8 +258,8 @@ fn is_blank(b: u8) -> bool
 }
 
 #[tactic(auto, unfolding(crate::specs::Tokens::solid_piece))]
-fn solid_at(bytes: &[u8]) -> Piece
-    ensures value { result ≡ solid_piece bytes.now }
+fn solid_at(dialect: Dialect, bytes: &[u8]) -> Piece
+    ensures value { result ≡ solid_piece dialect bytes.now }
     ensures fits { result.len ≤ length bytes.now }
     ensures moves { 0 < length bytes.now → 0 < result.len }
 {
@@ -267,9 +267,9 @@ fn solid_at(bytes: &[u8]) -> Piece
         [] => Piece::end(),
         [b, others @ ..] => {
             if is_letter(*b) {
-                word_at(bytes)
+                word_at(dialect, bytes)
             } else if starts_number(*b) {
-                judged_literal(&bytes[..1 + literal_len(others)])
+                judged_literal(dialect, &bytes[..1 + literal_len(others)])
             } else if *b == b'%' {
                 Piece::sign(Sign::Address, 1 + address_len(others))
             } else {
@@ -280,8 +280,8 @@ fn solid_at(bytes: &[u8]) -> Piece
 }
 
 #[tactic(auto, unfolding(crate::specs::Tokens::piece_of))]
-fn piece_at(bytes: &[u8]) -> Piece
-    ensures value { result ≡ piece_of bytes.now }
+fn piece_at(dialect: Dialect, bytes: &[u8]) -> Piece
+    ensures value { result ≡ piece_of dialect bytes.now }
     ensures end { length bytes.now ≡ 0 → result.class ≡ Some Class.End }
     ensures fits { result.len ≤ length bytes.now }
     ensures moves { 0 < length bytes.now → 0 < result.len }
@@ -296,7 +296,7 @@ fn piece_at(bytes: &[u8]) -> Piece
             } else if *b == b'(' && starts_with(others, b'*') {
                 comment_at(&others[1..])
             } else {
-                solid_at(bytes)
+                solid_at(dialect, bytes)
             }
         }
     }
@@ -314,13 +314,13 @@ fn comment_at(inside: &[u8]) -> Piece
 }
 
 /// The first token, and what stands after it.
-pub fn next(bytes: &[u8]) -> (Lexeme<'_>, &[u8])
-    ensures value { tokens_of bytes.now ≡ joined (token result.0) (tokens_of result.1.now) }
+pub fn next(dialect: Dialect, bytes: &[u8]) -> (Lexeme<'_>, &[u8])
+    ensures value { tokens_of dialect bytes.now ≡ joined (token result.0) (tokens_of dialect result.1.now) }
     ensures moves { result.0.class ≢ Class.End → length result.1.now < length bytes.now }
 {
     let mut rest = bytes;
     loop {
-        let piece = piece_at(rest);
+        let piece = piece_at(dialect, rest);
         let (text, others) = rest.split_at(piece.len);
         match piece.class {
             None => rest = others,

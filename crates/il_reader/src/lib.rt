@@ -1,5 +1,5 @@
 //! Reads an Instruction List text: what it says, or its first fault with its line and column. It stands on `il_model`
-//! (the operator words) and knows no program, no type and no location.
+//! (the operator words and the literals of each dialect) and knows no program, no type and no location.
 //!
 //! ```rust
 //! let source = il_reader::read(alloc, b"LD %IX0.0\nST %QX0.0\n").ok()?;
@@ -9,7 +9,9 @@
 //! Proved: `read` answers Ok exactly where the grammar (`specs/Spelling`, `specs/Grammar`) has a source for the text,
 //! and gives that one; else the first fault, and where (`specs/FirstFault`): a text over the limit of 2 MiB is too long
 //! at 1:1, any other has its fault at the first token with which no text begins. Each text has one source or one fault,
-//! and never both (`a_text_is_read_or_refused`).
+//! and never both (`a_text_is_read_or_refused`). A text that begins with VAR_GLOBAL, which no colon follows, is an
+//! extended text: its blocks begin with that word, and it alone may have literals of REAL and the operator words that
+//! came with them (`Source::dialect`).
 //!
 //! Only tested: nothing; `texts.rows` and `first_path.rows` of `tests_rows` have texts with their faults.
 #![tactic(auto)]
@@ -17,6 +19,7 @@
 mod blocks;
 mod calls;
 mod contents;
+mod dialect;
 mod fault;
 mod first_fault;
 mod lexeme;

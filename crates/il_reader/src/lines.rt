@@ -12,60 +12,60 @@ use crate::lexeme::{Sign, next};
 use crate::lists::Listed;
 use crate::operations::{at_line_stop, operation_read, optional_operation};
 use crate::reading::{expected, is, is_end, is_word, past_breaks, refused};
-use il_model::mnemonic_from;
+use il_model::Dialect;
 use std::alloc::Global;
 
 #[tactic(auto, unfolding(crate::specs::Grammar::is_label))]
-fn at_label(bytes: &[u8]) -> bool
-    ensures { result ≡ is_label (tokens_of bytes.now) }
+fn at_label(dialect: Dialect, bytes: &[u8]) -> bool
+    ensures { result ≡ is_label dialect (tokens_of dialect bytes.now) }
 {
-    let (t, rest) = next(bytes);
+    let (t, rest) = next(dialect, bytes);
     if is(Sign::Name, t) {
-        let (u, _) = next(rest);
-        is(Sign::Colon, u) || mnemonic_from(t.text).is_none()
+        let (u, _) = next(dialect, rest);
+        is(Sign::Colon, u) || dialect.operator(t.text).is_none()
     } else {
         false
     }
 }
 
 #[tactic(auto, unfolding(crate::specs::Walk::labelled_at))]
-fn labelled(alloc: Global, bytes: &[u8]) -> Result<(Line<'_>, &[u8]), Failure>
-    ensures { Takes line labelled_at bytes.now result }
+fn labelled(dialect: Dialect, alloc: Global, bytes: &[u8]) -> Result<(Line<'_>, &[u8]), Failure>
+    ensures { Takes dialect line (labelled_at dialect) bytes.now result }
 {
-    let (label, rest) = expected(Sign::Name, bytes)?;
-    let (_, rest) = expected(Sign::Colon, rest)?;
-    let (x, rest) = optional_operation(alloc, rest)?;
+    let (label, rest) = expected(dialect, Sign::Name, bytes)?;
+    let (_, rest) = expected(dialect, Sign::Colon, rest)?;
+    let (x, rest) = optional_operation(dialect, alloc, rest)?;
     Ok((Line::Labelled(label, x), rest))
 }
 
 #[tactic(auto, unfolding(crate::specs::Walk::plain_at))]
-fn plain(alloc: Global, bytes: &[u8]) -> Result<(Line<'_>, &[u8]), Failure>
-    ensures { Takes line plain_at bytes.now result }
+fn plain(dialect: Dialect, alloc: Global, bytes: &[u8]) -> Result<(Line<'_>, &[u8]), Failure>
+    ensures { Takes dialect line (plain_at dialect) bytes.now result }
 {
-    let (x, rest) = operation_read(alloc, bytes)?;
+    let (x, rest) = operation_read(dialect, alloc, bytes)?;
     Ok((Line::Plain(x), rest))
 }
 
 #[tactic(auto, unfolding(crate::specs::Walk::either_line_at))]
-fn either_line(alloc: Global, bytes: &[u8]) -> Result<(Line<'_>, &[u8]), Failure>
-    ensures { Takes line either_line_at bytes.now result }
+fn either_line(dialect: Dialect, alloc: Global, bytes: &[u8]) -> Result<(Line<'_>, &[u8]), Failure>
+    ensures { Takes dialect line (either_line_at dialect) bytes.now result }
 {
-    if at_label(bytes) {
-        labelled(alloc, bytes)
+    if at_label(dialect, bytes) {
+        labelled(dialect, alloc, bytes)
     } else {
-        plain(alloc, bytes)
+        plain(dialect, alloc, bytes)
     }
 }
 
 #[tactic(auto, unfolding(crate::specs::Walk::line_at))]
-fn line_read(alloc: Global, bytes: &[u8]) -> Result<(Line<'_>, &[u8]), Failure>
-    ensures { Takes line line_at bytes.now result }
+fn line_read(dialect: Dialect, alloc: Global, bytes: &[u8]) -> Result<(Line<'_>, &[u8]), Failure>
+    ensures { Takes dialect line (line_at dialect) bytes.now result }
 {
-    let (x, rest) = either_line(alloc, past_breaks(bytes))?;
-    if at_line_stop(rest) {
+    let (x, rest) = either_line(dialect, alloc, past_breaks(dialect, bytes))?;
+    if at_line_stop(dialect, rest) {
         Ok((x, rest))
     } else {
-        Err(refused(next(rest).0))
+        Err(refused(next(dialect, rest).0))
     }
 }
 
@@ -79,20 +79,24 @@ impl<'a> Listed<'a> for Lines {
 
     ghost said = { line };
 
-    ghost ends = { ends_lines };
+    ghost ends = { λ dialect. ends_lines };
 
     ghost item_at = { line_at };
 
     #[tactic(auto, unfolding(crate::specs::Grammar::ends_lines))]
-    fn stops(bytes: &[u8]) -> bool
-        ensures { result ≡ ends_lines (tokens_of bytes.now) }
+    fn stops(dialect: Dialect, bytes: &[u8]) -> bool
+        ensures { result ≡ ends_lines (tokens_of dialect bytes.now) }
     {
-        let (t, _) = next(past_breaks(bytes));
+        let (t, _) = next(dialect, past_breaks(dialect, bytes));
         is_end(t)
     }
 
-    fn item(alloc: Global, bytes: &'a [u8]) -> Result<(Line<'a>, &'a [u8]), Failure> {
-        line_read(alloc, bytes)
+    fn item(
+        dialect: Dialect,
+        alloc: Global,
+        bytes: &'a [u8],
+    ) -> Result<(Line<'a>, &'a [u8]), Failure> {
+        line_read(dialect, alloc, bytes)
     }
 }
 
@@ -106,19 +110,23 @@ impl<'a> Listed<'a> for NamedLines {
 
     ghost said = { line };
 
-    ghost ends = { ends_named };
+    ghost ends = { λ dialect. ends_named };
 
     ghost item_at = { line_at };
 
     #[tactic(auto, unfolding(crate::specs::Grammar::ends_named))]
-    fn stops(bytes: &[u8]) -> bool
-        ensures { result ≡ ends_named (tokens_of bytes.now) }
+    fn stops(dialect: Dialect, bytes: &[u8]) -> bool
+        ensures { result ≡ ends_named (tokens_of dialect bytes.now) }
     {
-        let (t, _) = next(past_breaks(bytes));
+        let (t, _) = next(dialect, past_breaks(dialect, bytes));
         is_word(b"END_PROGRAM", t)
     }
 
-    fn item(alloc: Global, bytes: &'a [u8]) -> Result<(Line<'a>, &'a [u8]), Failure> {
-        line_read(alloc, bytes)
+    fn item(
+        dialect: Dialect,
+        alloc: Global,
+        bytes: &'a [u8],
+    ) -> Result<(Line<'a>, &'a [u8]), Failure> {
+        line_read(dialect, alloc, bytes)
     }
 }

@@ -11,7 +11,7 @@ use crate::contents::Operand;
 use crate::fault::Failure;
 use crate::lexeme::{Lexeme, Sign, next};
 use crate::reading::{expected, is, past_breaks, refused};
-use il_model::is_spelled;
+use il_model::{Dialect, is_spelled};
 
 fn truth(t: Lexeme) -> bool
     ensures { result ≡ is_truth (token t.entry) }
@@ -37,10 +37,10 @@ fn constant(t: Lexeme) -> bool
 }
 
 #[tactic(auto, unfolding(crate::specs::Walk::variable_at))]
-fn variable_read(bytes: &[u8]) -> Result<(Lexeme<'_>, &[u8]), Failure>
-    ensures { Takes token variable_at bytes.now result }
+fn variable_read(dialect: Dialect, bytes: &[u8]) -> Result<(Lexeme<'_>, &[u8]), Failure>
+    ensures { Takes dialect token variable_at bytes.now result }
 {
-    let (t, rest) = next(bytes);
+    let (t, rest) = next(dialect, bytes);
     if variable(t) {
         Ok((t, rest))
     } else {
@@ -50,10 +50,10 @@ fn variable_read(bytes: &[u8]) -> Result<(Lexeme<'_>, &[u8]), Failure>
 
 /// A literal, TRUE or FALSE.
 #[tactic(auto, unfolding(crate::specs::Walk::constant_at, crate::specs::Grammar::is_constant))]
-pub fn constant_read(bytes: &[u8]) -> Result<(Lexeme<'_>, &[u8]), Failure>
-    ensures { Takes token constant_at bytes.now result }
+pub fn constant_read(dialect: Dialect, bytes: &[u8]) -> Result<(Lexeme<'_>, &[u8]), Failure>
+    ensures { Takes dialect token constant_at bytes.now result }
 {
-    let (t, rest) = next(bytes);
+    let (t, rest) = next(dialect, bytes);
     if constant(t) {
         Ok((t, rest))
     } else {
@@ -62,13 +62,13 @@ pub fn constant_read(bytes: &[u8]) -> Result<(Lexeme<'_>, &[u8]), Failure>
 }
 
 #[tactic(auto, unfolding(crate::specs::Walk::field_at))]
-fn field_read(bytes: &[u8]) -> Result<(Option<Lexeme<'_>>, &[u8]), Failure>
-    ensures { Takes (option_map token) field_at bytes.now result }
+fn field_read(dialect: Dialect, bytes: &[u8]) -> Result<(Option<Lexeme<'_>>, &[u8]), Failure>
+    ensures { Takes dialect (option_map token) field_at bytes.now result }
 {
-    let (t, _) = next(bytes);
+    let (t, _) = next(dialect, bytes);
     if is(Sign::Dot, t) {
-        let (_, rest) = expected(Sign::Dot, bytes)?;
-        let (field, rest) = expected(Sign::Name, rest)?;
+        let (_, rest) = expected(dialect, Sign::Dot, bytes)?;
+        let (field, rest) = expected(dialect, Sign::Name, rest)?;
         Ok((Some(field), rest))
     } else {
         Ok((None, bytes))
@@ -76,13 +76,13 @@ fn field_read(bytes: &[u8]) -> Result<(Option<Lexeme<'_>>, &[u8]), Failure>
 }
 
 #[tactic(auto, unfolding(crate::specs::Walk::inner_field_at))]
-fn inner_field_read(bytes: &[u8]) -> Result<(Option<Lexeme<'_>>, &[u8]), Failure>
-    ensures { Takes (option_map token) inner_field_at bytes.now result }
+fn inner_field_read(dialect: Dialect, bytes: &[u8]) -> Result<(Option<Lexeme<'_>>, &[u8]), Failure>
+    ensures { Takes dialect (option_map token) inner_field_at bytes.now result }
 {
-    let (t, _) = next(past_breaks(bytes));
+    let (t, _) = next(dialect, past_breaks(dialect, bytes));
     if is(Sign::Dot, t) {
-        let (_, rest) = expected(Sign::Dot, past_breaks(bytes))?;
-        let (field, rest) = expected(Sign::Name, past_breaks(rest))?;
+        let (_, rest) = expected(dialect, Sign::Dot, past_breaks(dialect, bytes))?;
+        let (field, rest) = expected(dialect, Sign::Name, past_breaks(dialect, rest))?;
         Ok((Some(field), rest))
     } else {
         Ok((None, bytes))
@@ -99,45 +99,45 @@ fn named<'a>(t: Lexeme<'a>, field: Option<Lexeme<'a>>) -> Operand<'a>
 }
 
 #[tactic(auto, unfolding(crate::specs::Walk::lone_at))]
-fn lone_read(bytes: &[u8]) -> Result<(Operand<'_>, &[u8]), Failure>
-    ensures { Takes operand lone_at bytes.now result }
+fn lone_read(dialect: Dialect, bytes: &[u8]) -> Result<(Operand<'_>, &[u8]), Failure>
+    ensures { Takes dialect operand lone_at bytes.now result }
 {
-    let (t, _) = next(bytes);
+    let (t, _) = next(dialect, bytes);
     if is(Sign::Address, t) {
-        let (t, rest) = expected(Sign::Address, bytes)?;
+        let (t, rest) = expected(dialect, Sign::Address, bytes)?;
         Ok((Operand::Direct(t), rest))
     } else {
-        let (t, rest) = constant_read(bytes)?;
+        let (t, rest) = constant_read(dialect, bytes)?;
         Ok((Operand::Constant(t), rest))
     }
 }
 
 /// An operand on a line.
 #[tactic(auto, unfolding(crate::specs::Walk::operand_at))]
-pub fn operand_read(bytes: &[u8]) -> Result<(Operand<'_>, &[u8]), Failure>
-    ensures { Takes operand operand_at bytes.now result }
+pub fn operand_read(dialect: Dialect, bytes: &[u8]) -> Result<(Operand<'_>, &[u8]), Failure>
+    ensures { Takes dialect operand operand_at bytes.now result }
 {
-    let (t, _) = next(bytes);
+    let (t, _) = next(dialect, bytes);
     if variable(t) {
-        let (t, rest) = variable_read(bytes)?;
-        let (field, rest) = field_read(rest)?;
+        let (t, rest) = variable_read(dialect, bytes)?;
+        let (field, rest) = field_read(dialect, rest)?;
         Ok((named(t, field), rest))
     } else {
-        lone_read(bytes)
+        lone_read(dialect, bytes)
     }
 }
 
 /// An operand between the parentheses of a call, where line ends are white space.
 #[tactic(auto, unfolding(crate::specs::Walk::inner_operand_at))]
-pub fn inner_operand_read(bytes: &[u8]) -> Result<(Operand<'_>, &[u8]), Failure>
-    ensures { Takes operand inner_operand_at bytes.now result }
+pub fn inner_operand_read(dialect: Dialect, bytes: &[u8]) -> Result<(Operand<'_>, &[u8]), Failure>
+    ensures { Takes dialect operand inner_operand_at bytes.now result }
 {
-    let (t, _) = next(bytes);
+    let (t, _) = next(dialect, bytes);
     if variable(t) {
-        let (t, rest) = variable_read(bytes)?;
-        let (field, rest) = inner_field_read(rest)?;
+        let (t, rest) = variable_read(dialect, bytes)?;
+        let (field, rest) = inner_field_read(dialect, rest)?;
         Ok((named(t, field), rest))
     } else {
-        lone_read(bytes)
+        lone_read(dialect, bytes)
     }
 }

@@ -7,7 +7,7 @@ ghost use Rattle.il_reader.specs.Reading.{Takes, Passes, expect, keyword};
 
 use crate::fault::{Failure, FaultAt, FaultKind};
 use crate::lexeme::{Class, Lexeme, Sign, next};
-use il_model::is_spelled;
+use il_model::{Dialect, is_spelled};
 
 /// Whether a token is this sign.
 pub fn is(sign: Sign, t: Lexeme) -> bool
@@ -36,10 +36,10 @@ pub fn refused(t: Lexeme) -> Failure
 
 /// This sign, and what stands after it.
 #[tactic(auto, unfolding(crate::specs::Reading::expect))]
-pub fn expected(sign: Sign, bytes: &[u8]) -> Result<(Lexeme<'_>, &[u8]), Failure>
-    ensures { Takes token (expect sign) bytes.now result }
+pub fn expected(dialect: Dialect, sign: Sign, bytes: &[u8]) -> Result<(Lexeme<'_>, &[u8]), Failure>
+    ensures { Takes dialect token (expect sign) bytes.now result }
 {
-    let (t, rest) = next(bytes);
+    let (t, rest) = next(dialect, bytes);
     if is(sign, t) {
         Ok((t, rest))
     } else {
@@ -49,12 +49,12 @@ pub fn expected(sign: Sign, bytes: &[u8]) -> Result<(Lexeme<'_>, &[u8]), Failure
 
 /// What stands after the line ends at the front.
 #[tactic(auto, unfolding(crate::specs::Front::skip_breaks))]
-pub fn past_breaks(bytes: &[u8]) -> &[u8]
-    ensures { tokens_of result.now ≡ skip_breaks (tokens_of bytes.now) }
+pub fn past_breaks(dialect: Dialect, bytes: &[u8]) -> &[u8]
+    ensures { tokens_of dialect result.now ≡ skip_breaks (tokens_of dialect bytes.now) }
 {
     let mut rest = bytes;
     loop {
-        let (t, after) = next(rest);
+        let (t, after) = next(dialect, rest);
         if !is(Sign::Break, t) {
             return rest;
         }
@@ -71,10 +71,10 @@ pub fn is_word(word: &[u8], t: Lexeme) -> bool
 
 /// What stands after a keyword.
 #[tactic(auto, unfolding(crate::specs::Reading::keyword))]
-pub fn past_keyword<'a>(word: &[u8], bytes: &'a [u8]) -> Result<&'a [u8], Failure>
-    ensures { Passes (keyword word.now) bytes.entry.now result }
+pub fn past_keyword<'a>(dialect: Dialect, word: &[u8], bytes: &'a [u8]) -> Result<&'a [u8], Failure>
+    ensures { Passes dialect (keyword word.now) bytes.entry.now result }
 {
-    let (t, rest) = next(bytes);
+    let (t, rest) = next(dialect, bytes);
     if is_word(word, t) {
         Ok(rest)
     } else {

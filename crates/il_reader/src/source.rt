@@ -6,9 +6,11 @@ ghost use Rattle.il_reader.specs.FirstFault.{IsGiven, TellsFirst, IsTold};
 ghost use Rattle.il_reader.specs.Walk.{source_of};
 
 use crate::contents::{Contents, Declaration, Line};
+use crate::dialect::dialect_of;
 use crate::fault::{Failure, Fault, FaultKind, ReadError};
 use crate::place::{Place, place_of};
 use crate::whole::whole;
+use il_model::Dialect;
 use std::alloc::Global;
 use std::marker::Model;
 
@@ -34,7 +36,7 @@ pub const TEXT_LIMIT: usize = 2_097_152;
 
 impl<'a> Source<'a> {
     ghost use Rattle.std.specs.Prelude.{map};
-    ghost use Rattle.il_reader.specs.Grammar.{declarations, line};
+    ghost use Rattle.il_reader.specs.Grammar.{declarations, line, dialect_of};
     ghost use Rattle.il_reader.specs.Texts.{place_at, IsSource};
     ghost use Rattle.il_reader.specs.Words.{AreWords};
 
@@ -42,7 +44,7 @@ impl<'a> Source<'a> {
     /// operators take what stands behind them.
     pub fn is_read(&self)
         ensures source { IsSource self.now }
-        ensures words { AreWords self.now.says }
+        ensures words { AreWords (dialect_of self.now.text) self.now.says }
     {
         let _contents = &self.contents;
     }
@@ -59,6 +61,13 @@ impl<'a> Source<'a> {
         ensures { map line result.now ≡ self.now.says.lines }
     {
         self.contents.lines.as_slice()
+    }
+
+    /// The dialect of the text, as its first word tells it.
+    pub fn dialect(&self) -> Dialect
+        ensures { result ≡ dialect_of self.now.text }
+    {
+        dialect_of(self.text)
     }
 
     /// Where the byte of the text stands from which on so many are left.
@@ -81,7 +90,7 @@ fn walked(alloc: Global, bytes: &[u8]) -> Result<Source<'_>, ReadError>
             place: Place { line: 1, column: 1 },
         }));
     }
-    match whole(alloc, bytes) {
+    match whole(dialect_of(bytes), alloc, bytes) {
         Ok(contents) => Ok(Source {
             text: bytes,
             contents,
@@ -95,8 +104,9 @@ fn walked(alloc: Global, bytes: &[u8]) -> Result<Source<'_>, ReadError>
 }
 
 /// Reads a text of at most 2,097,152 bytes (IEC 61131-3:2003, 3.2 and Annex B: declarations with locations and initial
-/// values, labels, all operators, fields of instances, calls with lists of inputs and outputs). A longer text is too
-/// long at 1:1, before all else. Answers the first fault in the text, or that memory ran out.
+/// values, labels, all operators, fields of instances, calls with lists of inputs and outputs). A text that begins with
+/// VAR_GLOBAL, which no colon follows, is an extended text. A longer text is too long at 1:1, before all else. Answers
+/// the first fault in the text, or that memory ran out.
 pub fn read(alloc: Global, bytes: &[u8]) -> Result<Source<'_>, ReadError>
     // What is read is what the text says.
     ensures found { IfOk result (λ s. Reads bytes.now s) }

@@ -14,21 +14,22 @@ use crate::lexeme::{Sign, next};
 use crate::lines::{Lines, NamedLines};
 use crate::lists::many;
 use crate::reading::{expected, is, is_end, is_word, past_breaks, past_keyword, refused};
+use il_model::Dialect;
 use std::alloc::Global;
 
 #[tactic(auto, unfolding(crate::specs::Grammar::begins_program))]
-fn at_program(bytes: &[u8]) -> bool
-    ensures { result ≡ begins_program (tokens_of bytes.now) }
+fn at_program(dialect: Dialect, bytes: &[u8]) -> bool
+    ensures { result ≡ begins_program (tokens_of dialect bytes.now) }
 {
-    let (t, _) = next(past_breaks(bytes));
+    let (t, _) = next(dialect, past_breaks(dialect, bytes));
     is_word(b"PROGRAM", t)
 }
 
 #[tactic(auto, unfolding(crate::specs::Walk::end_at))]
-fn ended(bytes: &[u8]) -> Result<&[u8], Failure>
-    ensures { Passes end_at bytes.now result }
+fn ended(dialect: Dialect, bytes: &[u8]) -> Result<&[u8], Failure>
+    ensures { Passes dialect end_at bytes.now result }
 {
-    let (t, _) = next(bytes);
+    let (t, _) = next(dialect, bytes);
     if is_end(t) {
         Ok(bytes)
     } else {
@@ -37,22 +38,22 @@ fn ended(bytes: &[u8]) -> Result<&[u8], Failure>
 }
 
 #[tactic(auto, unfolding(crate::specs::Walk::finish_at))]
-fn finished(bytes: &[u8]) -> Result<&[u8], Failure>
-    ensures { Passes finish_at bytes.now result }
+fn finished(dialect: Dialect, bytes: &[u8]) -> Result<&[u8], Failure>
+    ensures { Passes dialect finish_at bytes.now result }
 {
-    let behind = past_keyword(b"END_PROGRAM", past_breaks(bytes))?;
-    ended(past_breaks(behind))
+    let behind = past_keyword(dialect, b"END_PROGRAM", past_breaks(dialect, bytes))?;
+    ended(dialect, past_breaks(dialect, behind))
 }
 
 #[tactic(auto, unfolding(crate::specs::Walk::named_at))]
-fn named(alloc: Global, bytes: &[u8]) -> Result<(Contents<'_>, &[u8]), Failure>
-    ensures { Takes program_text named_at bytes.now result }
+fn named(dialect: Dialect, alloc: Global, bytes: &[u8]) -> Result<(Contents<'_>, &[u8]), Failure>
+    ensures { Takes dialect program_text (named_at dialect) bytes.now result }
 {
-    let rest = past_keyword(b"PROGRAM", past_breaks(bytes))?;
-    let (name, rest) = expected(Sign::Name, rest)?;
-    let (blocks, rest) = many::<Blocks>(alloc, rest)?;
-    let (lines, rest) = many::<NamedLines>(alloc, rest)?;
-    let rest = finished(rest)?;
+    let rest = past_keyword(dialect, b"PROGRAM", past_breaks(dialect, bytes))?;
+    let (name, rest) = expected(dialect, Sign::Name, rest)?;
+    let (blocks, rest) = many::<Blocks>(dialect, alloc, rest)?;
+    let (lines, rest) = many::<NamedLines>(dialect, alloc, rest)?;
+    let rest = finished(dialect, rest)?;
     Ok((
         Contents {
             name: Some(name),
@@ -64,12 +65,12 @@ fn named(alloc: Global, bytes: &[u8]) -> Result<(Contents<'_>, &[u8]), Failure>
 }
 
 #[tactic(auto, unfolding(crate::specs::Walk::bare_at))]
-fn bare(alloc: Global, bytes: &[u8]) -> Result<(Contents<'_>, &[u8]), Failure>
-    ensures { Takes program_text bare_at bytes.now result }
+fn bare(dialect: Dialect, alloc: Global, bytes: &[u8]) -> Result<(Contents<'_>, &[u8]), Failure>
+    ensures { Takes dialect program_text (bare_at dialect) bytes.now result }
 {
-    let (blocks, rest) = many::<Blocks>(alloc, bytes)?;
-    let (lines, rest) = many::<Lines>(alloc, rest)?;
-    let rest = ended(past_breaks(rest))?;
+    let (blocks, rest) = many::<Blocks>(dialect, alloc, bytes)?;
+    let (lines, rest) = many::<Lines>(dialect, alloc, rest)?;
+    let rest = ended(dialect, past_breaks(dialect, rest))?;
     Ok((
         Contents {
             name: None,
@@ -81,29 +82,29 @@ fn bare(alloc: Global, bytes: &[u8]) -> Result<(Contents<'_>, &[u8]), Failure>
 }
 
 #[tactic(auto, unfolding(crate::specs::Walk::program_at))]
-fn program(alloc: Global, bytes: &[u8]) -> Result<(Contents<'_>, &[u8]), Failure>
-    ensures { Takes program_text program_at bytes.now result }
+fn program(dialect: Dialect, alloc: Global, bytes: &[u8]) -> Result<(Contents<'_>, &[u8]), Failure>
+    ensures { Takes dialect program_text (program_at dialect) bytes.now result }
 {
-    if at_program(bytes) {
-        named(alloc, bytes)
+    if at_program(dialect, bytes) {
+        named(dialect, alloc, bytes)
     } else {
-        bare(alloc, bytes)
+        bare(dialect, alloc, bytes)
     }
 }
 
 #[tactic(auto, unfolding(crate::specs::Walk::text_of))]
-fn all(alloc: Global, bytes: &[u8]) -> Result<Contents<'_>, Failure>
-    ensures { Gives program_text result (text_of bytes.now) }
+fn all(dialect: Dialect, alloc: Global, bytes: &[u8]) -> Result<Contents<'_>, Failure>
+    ensures { Gives program_text result (text_of dialect bytes.now) }
 {
-    let (contents, _) = program(alloc, bytes)?;
+    let (contents, _) = program(dialect, alloc, bytes)?;
     Ok(contents)
 }
 
 /// What a text says, from its first token to its last.
-pub fn whole(alloc: Global, bytes: &[u8]) -> Result<Contents<'_>, Failure>
-    ensures found { IfOk result (λ c. Says bytes.now (program_text c)) }
-    ensures only { (p : ProgramText) → Says bytes.now p → text_of bytes.now ≡ Ok p }
-    ensures exact { Gives program_text result (text_of bytes.now) }
+pub fn whole(dialect: Dialect, alloc: Global, bytes: &[u8]) -> Result<Contents<'_>, Failure>
+    ensures found { IfOk result (λ c. Says dialect bytes.now (program_text c)) }
+    ensures only { (p : ProgramText) → Says dialect bytes.now p → text_of dialect bytes.now ≡ Ok p }
+    ensures exact { Gives program_text result (text_of dialect bytes.now) }
 {
-    all(alloc, bytes)
+    all(dialect, alloc, bytes)
 }

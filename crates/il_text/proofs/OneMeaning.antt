@@ -3,6 +3,7 @@ use Rattle.std.proofs.Common.{◌≡◌, ◌⊎◌, inl, inr, ℕ, List, Result,
 use Rattle.il_model.specs.Program.{Program}
 use Rattle.il_model.specs.declared.typing.TypeFault.{TypeFault}
 use Rattle.il_model.specs.Settled.{IsTypedProgramOf}
+use Rattle.il_reader.specs.Grammar.{dialect_of}
 use Rattle.il_reader.specs.declared.fault.Fault as read_faults
 use Rattle.il_reader.specs.declared.fault.ReadError.TheVariants as reads
 use Rattle.il_reader.specs.Texts.{SourceText, Reads}
@@ -24,7 +25,7 @@ use Rattle.il_text.specs.Telling.{of_read, of_declaration, of_assembly}
 program_is : (text : List ℕ) (P Q : Program) → IsProgramOf text P → IsProgramOf text Q → P ≡ Q
 program_is text P Q a b =
     let same = reading.one_source text a.source b.source a.read b.read in
-    one_program b.source.says P Q (subst (λ (s : SourceText). Declaring.IsProgramOf s.says P) same a.declared) b.declared
+    one_program (dialect_of b.source.text) b.source.says P Q (subst (λ (s : SourceText). Declaring.IsProgramOf (dialect_of s.text) s.says P) same a.declared) b.declared
 
 pub one_typed : (text : List ℕ) (P Q : Program) → IsTypedProgramOfText text P → IsTypedProgramOfText text Q → P ≡ Q
 one_typed text P Q a b =

@@ -2,6 +2,7 @@
 use Rattle.std.specs.Prelude.{ℕ, ◌/◌, ◌%◌, ℤ, Bool, true, false, List, [], ◌++◌, if◌then◌else◌, codes}
 use Rattle.std.specs.List.{flat_map, enumerate_from}
 use Rattle.std.specs.Fmt.{decimal, signed_decimal}
+use Rattle.il_real.specs.Texts.{real_text}
 use Rattle.il_model.specs.Answers.{refusal_number}
 use Rattle.il_model.specs.Operators.{is_zero}
 use Rattle.il_model.specs.declared.command.Answer.{Answer}
@@ -39,6 +40,7 @@ value_text (values.Int z) = codes "value INT#" ++ signed_decimal z
 value_text (values.Dint z) = codes "value DINT#" ++ signed_decimal z
 value_text (values.Lint z) = codes "value LINT#" ++ signed_decimal z
 value_text (values.Time z) = codes "value T#" ++ (signed_decimal z ++ codes "ms")
+value_text (values.Real r) = codes "value REAL#" ++ real_text r
 
 -- an answer, without the end of its line
 abbrev pub answer_text : Answer → List ℕ

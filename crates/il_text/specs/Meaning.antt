@@ -5,6 +5,7 @@ use Rattle.il_model.specs.declared.typing.TypeFault.{TypeFault}
 use Rattle.il_model.specs.Settled.{IsTypedProgramOf}
 use Rattle.il_model.specs.Image.{spelling}
 use Rattle.il_model.specs.Fits.{IsImage}
+use Rattle.il_reader.specs.Grammar.{dialect_of}
 use Rattle.il_reader.specs.Texts.{SourceText, Reads}
 use Rattle.il_reader.specs.FirstFault.{IsFaultOf}
 use Rattle.il_reader.specs.declared.fault.Fault as read_faults
@@ -25,8 +26,8 @@ use Rattle.il_text.specs.declared.fault.Fault.TheVariants as faults
 pub record IsProgramOf (text : List ℕ) (program : Program) : Type 0 where
   pub source : SourceText
   pub read : Reads text source
-  pub declared : Declaring.IsProgramOf source.says program
-  pub faultless : HasNoFault source.says
+  pub declared : Declaring.IsProgramOf (dialect_of source.text) source.says program
+  pub faultless : HasNoFault (dialect_of source.text) source.says
 
 -- the text says a program whose typed program, with a type for each bare number, is this one
 pub record IsTypedProgramOfText (text : List ℕ) (typed : Program) : Type 0 where

@@ -99,6 +99,10 @@ fn literal<W: fmt::Write>(f: &mut fmt::Formatter<W>, value: Value) -> fmt::Resul
         Value::Dint(number) => write!(f, "value DINT#{number}"),
         Value::Lint(number) => write!(f, "value LINT#{number}"),
         Value::Time(milliseconds) => write!(f, "value T#{milliseconds}ms"),
+        Value::Real(number) => {
+            let text = number.text();
+            write!(f, "value REAL#{text}")
+        }
     }
 }
 

@@ -2,6 +2,7 @@
 use Rattle.std.proofs.Common.{◌≡◌, ℕ, Bool, true, false, List, [], ◌∷◌, ◌++◌, refl, sym, ap, ◌∙◌, subst, append_assoc}
 use Rattle.std.specs.Prelude.{codes}
 use Rattle.std.specs.List.{AllByRecursion, flat_map}
+use Rattle.il_model.specs.declared.dialect.Dialect.{Dialect}
 use Rattle.il_model.specs.declared.value.Value.{Value}
 use Rattle.il_model.specs.declared.value.Value.TheVariants as values
 use Rattle.il_model.specs.declared.program.Operand.{Operand}
@@ -34,6 +35,7 @@ literal_constant (values.Int z) rest = refl
 literal_constant (values.Dint z) rest = refl
 literal_constant (values.Time z) rest = refl
 literal_constant (values.Lint z) rest = refl
+literal_constant (values.Real r) rest = refl
 
 pub literal_solid : (v : Value) (rest : List ℕ) → is_sign signs.Break (literal_at v rest) ≡ false
 literal_solid (values.Bool b) rest = refl
@@ -41,6 +43,7 @@ literal_solid (values.Int z) rest = refl
 literal_solid (values.Dint z) rest = refl
 literal_solid (values.Time z) rest = refl
 literal_solid (values.Lint z) rest = refl
+literal_solid (values.Real r) rest = refl
 
 true_reserved : is_reserved (codes "TRUE") ≡ true
 unfolding mnemonic_of look spells
@@ -54,34 +57,34 @@ pub free_variable : (w rest : List ℕ) → IsFreeName w → is_variable (token_
 free_variable w rest is = rw (not_word (codes "TRUE") w true_reserved is, not_word (codes "FALSE") w false_reserved is) refl
 
 -- the first token of a value or place, and those behind it
-abbrev field_tokens : List ℕ → List ℕ → List Token
-field_tokens field rest = token_at signs.Dot (46 ∷ []) (field ++ rest) ∷ token_at signs.Name field rest ∷ tokens_of rest
+abbrev field_tokens : (dialect : Dialect) → List ℕ → List ℕ → List Token
+field_tokens dialect field rest = token_at signs.Dot (46 ∷ []) (field ++ rest) ∷ token_at signs.Name field rest ∷ tokens_of dialect rest
 
-field_is : (w field rest : List ℕ) → IsFreeName w → IsName field → EndsOperand rest → tokens_of (operand_text (operands.Field w field) ++ rest) ≡ token_at signs.Name w (46 ∷ (field ++ rest)) ∷ field_tokens field rest
-field_is w field rest is also ends =
-    ap tokens_of (append_assoc w (46 ∷ field) rest)
-    ∙ name_token w (46 ∷ (field ++ rest)) is.name refl
-    ∙ ap (λ (ts : List Token). token_at signs.Name w (46 ∷ (field ++ rest)) ∷ ts) (dot_token (field ++ rest) ∙ ap (λ (ts : List Token). token_at signs.Dot (46 ∷ []) (field ++ rest) ∷ ts) (name_token field rest also ends.word))
+field_is : (dialect : Dialect) (w field rest : List ℕ) → IsFreeName w → IsName field → EndsOperand rest → tokens_of dialect (operand_text (operands.Field w field) ++ rest) ≡ token_at signs.Name w (46 ∷ (field ++ rest)) ∷ field_tokens dialect field rest
+field_is dialect w field rest is also ends =
+    ap (tokens_of dialect) (append_assoc w (46 ∷ field) rest)
+    ∙ name_token dialect w (46 ∷ (field ++ rest)) is.name refl
+    ∙ ap (λ (ts : List Token). token_at signs.Name w (46 ∷ (field ++ rest)) ∷ ts) (dot_token dialect (field ++ rest) ∙ ap (λ (ts : List Token). token_at signs.Dot (46 ∷ []) (field ++ rest) ∷ ts) (name_token dialect field rest also ends.word))
 
 -- how a value or a place is spelled behind an operator, and within the parentheses of a call
-pub record IsSpelledValue (o : Operand) (rest : List ℕ) : Type 0 where
+pub record IsSpelledValue (dialect : Dialect) (o : Operand) (rest : List ℕ) : Type 0 where
   pub first : Token
   pub more : List Token
-  pub begins : Begins (tokens_of (operand_text o ++ rest)) first more
+  pub begins : Begins (tokens_of dialect (operand_text o ++ rest)) first more
   pub no_colon : is_sign signs.Colon first ≡ false
-  pub plain : no_dot (tokens_of rest) ≡ true → Spell (spelled_operand (written_operand o rest)) (tokens_of (operand_text o ++ rest)) (tokens_of rest)
-  pub inner : before_no_dot (tokens_of rest) ≡ true → Spell (spelled_inner_operand (written_operand o rest)) (tokens_of (operand_text o ++ rest)) (tokens_of rest)
+  pub plain : no_dot (tokens_of dialect rest) ≡ true → Spell (spelled_operand (written_operand o rest)) (tokens_of dialect (operand_text o ++ rest)) (tokens_of dialect rest)
+  pub inner : before_no_dot (tokens_of dialect rest) ≡ true → Spell (spelled_inner_operand (written_operand o rest)) (tokens_of dialect (operand_text o ++ rest)) (tokens_of dialect rest)
 
-pub value_spelled : (ds : Declarations) (o : Operand) (rest : List ℕ) → IsValueOperand ds o → EndsOperand rest → IsSpelledValue o rest
+pub value_spelled : (dialect : Dialect) (ds : Declarations) (o : Operand) (rest : List ℕ) → IsValueOperand dialect ds o → EndsOperand rest → IsSpelledValue dialect o rest
 unfolding skip_breaks
-value_spelled ds operands.Absent rest is ends = absurd is
-value_spelled ds (operands.Bare z) rest is ends = absurd is
-value_spelled ds (operands.Label w) rest is ends = absurd is
-value_spelled ds (operands.Instance w) rest is ends = absurd is
-value_spelled ds (operands.Literal v) rest is ends =
-    let e = literal_token v rest is ends in
-    let s = spell_this is_constant (literal_at v rest) [] (tokens_of (literal_text v ++ rest)) (tokens_of rest) (tokens_of rest) e (literal_constant v rest) refl in
-    record { first = literal_at v rest; more = tokens_of rest; begins = record { is = e; solid = literal_solid v rest }; no_colon = literal_no_colon v; plain = λ d. s; inner = λ d. s }
+value_spelled dialect ds operands.Absent rest is ends = absurd is
+value_spelled dialect ds (operands.Bare z) rest is ends = absurd is
+value_spelled dialect ds (operands.Label w) rest is ends = absurd is
+value_spelled dialect ds (operands.Instance w) rest is ends = absurd is
+value_spelled dialect ds (operands.Literal v) rest is ends =
+    let e = literal_token dialect v rest is ends in
+    let s = spell_this is_constant (literal_at v rest) [] (tokens_of dialect (literal_text v ++ rest)) (tokens_of dialect rest) (tokens_of dialect rest) e (literal_constant v rest) refl in
+    record { first = literal_at v rest; more = tokens_of dialect rest; begins = record { is = e; solid = literal_solid v rest }; no_colon = literal_no_colon v; plain = λ d. s; inner = λ d. s }
   where
     literal_no_colon : (v : Value) → is_sign signs.Colon (literal_at v rest) ≡ false
     literal_no_colon (values.Bool b) = refl
@@ -89,28 +92,29 @@ value_spelled ds (operands.Literal v) rest is ends =
     literal_no_colon (values.Dint z) = refl
     literal_no_colon (values.Time z) = refl
     literal_no_colon (values.Lint z) = refl
-value_spelled ds (operands.Direct loc) rest is ends =
+    literal_no_colon (values.Real r) = refl
+value_spelled dialect ds (operands.Direct loc) rest is ends =
     let t = token_at signs.Address (location_text loc) rest in
-    let e = location_token loc rest ends in
-    let s = spell_this (is_sign signs.Address) t [] (tokens_of (location_text loc ++ rest)) (tokens_of rest) (tokens_of rest) e refl refl in
-    record { first = t; more = tokens_of rest; begins = record { is = e; solid = refl }; no_colon = refl; plain = λ d. s; inner = λ d. s }
-value_spelled ds (operands.Variable w) rest is ends =
+    let e = location_token dialect loc rest ends in
+    let s = spell_this (is_sign signs.Address) t [] (tokens_of dialect (location_text loc ++ rest)) (tokens_of dialect rest) (tokens_of dialect rest) e refl refl in
+    record { first = t; more = tokens_of dialect rest; begins = record { is = e; solid = refl }; no_colon = refl; plain = λ d. s; inner = λ d. s }
+value_spelled dialect ds (operands.Variable w) rest is ends =
     let t = token_at signs.Name w rest in
-    let e = name_token w rest is.0.name ends.word in
-    let s = λ (p : List Token → Bool) (d : p (tokens_of rest) ≡ true). spell_this is_variable t (ahead p ∷ []) (tokens_of (w ++ rest)) (tokens_of rest) (tokens_of rest) e (free_variable w rest is.0) (d, refl) in
-    record { first = t; more = tokens_of rest; begins = record { is = e; solid = refl }; no_colon = refl; plain = s no_dot; inner = s before_no_dot }
-value_spelled ds (operands.Field w field) rest is ends =
+    let e = name_token dialect w rest is.0.name ends.word in
+    let s = λ (p : List Token → Bool) (d : p (tokens_of dialect rest) ≡ true). spell_this is_variable t (ahead p ∷ []) (tokens_of dialect (w ++ rest)) (tokens_of dialect rest) (tokens_of dialect rest) e (free_variable w rest is.0) (d, refl) in
+    record { first = t; more = tokens_of dialect rest; begins = record { is = e; solid = refl }; no_colon = refl; plain = s no_dot; inner = s before_no_dot }
+value_spelled dialect ds (operands.Field w field) rest is ends =
     let t = token_at signs.Name w (46 ∷ (field ++ rest)) in
     let f = token_at signs.Name field rest in
-    let ts = tokens_of (operand_text (operands.Field w field) ++ rest) in
-    let e = field_is w field rest is.0 is.1.name ends in
+    let ts = tokens_of dialect (operand_text (operands.Field w field) ++ rest) in
+    let e = field_is dialect w field rest is.0 is.1.name ends in
     record {
       first = t;
-      more = field_tokens field rest;
+      more = field_tokens dialect field rest;
       begins = record { is = e; solid = refl };
       no_colon = refl;
-      plain = λ d. spell_this is_variable t (sign signs.Dot ∷ name f ∷ []) ts (field_tokens field rest) (tokens_of rest) e (free_variable w (46 ∷ (field ++ rest)) is.0) (refl, ((refl, refl), refl));
-      inner = λ d. spell_this is_variable t (breaks ∷ sign signs.Dot ∷ breaks ∷ name f ∷ []) ts (field_tokens field rest) (tokens_of rest) e (free_variable w (46 ∷ (field ++ rest)) is.0) (refl, ((refl, refl), refl));
+      plain = λ d. spell_this is_variable t (sign signs.Dot ∷ name f ∷ []) ts (field_tokens dialect field rest) (tokens_of dialect rest) e (free_variable w (46 ∷ (field ++ rest)) is.0) (refl, ((refl, refl), refl));
+      inner = λ d. spell_this is_variable t (breaks ∷ sign signs.Dot ∷ breaks ∷ name f ∷ []) ts (field_tokens dialect field rest) (tokens_of dialect rest) e (free_variable w (46 ∷ (field ++ rest)) is.0) (refl, ((refl, refl), refl));
     }
 
 -- ---- arguments
@@ -119,85 +123,85 @@ abbrev side_at : Side → List ℕ → Token
 side_at sides.Input rest = token_at signs.Assign (58 ∷ 61 ∷ []) (32 ∷ rest)
 side_at sides.Output rest = token_at signs.Arrow (61 ∷ 62 ∷ []) (32 ∷ rest)
 
-side_token : (side : Side) (rest : List ℕ) → tokens_of (side_text side ++ rest) ≡ side_at side rest ∷ tokens_of rest
-side_token sides.Input rest = blank_skips (58 ∷ 61 ∷ 32 ∷ rest) ∙ assign_token (32 ∷ rest) ∙ ap (λ (ts : List Token). side_at sides.Input rest ∷ ts) (blank_skips rest)
-side_token sides.Output rest = blank_skips (61 ∷ 62 ∷ 32 ∷ rest) ∙ arrow_token (32 ∷ rest) ∙ ap (λ (ts : List Token). side_at sides.Output rest ∷ ts) (blank_skips rest)
+side_token : (dialect : Dialect) (side : Side) (rest : List ℕ) → tokens_of dialect (side_text side ++ rest) ≡ side_at side rest ∷ tokens_of dialect rest
+side_token dialect sides.Input rest = blank_skips dialect (58 ∷ 61 ∷ 32 ∷ rest) ∙ assign_token dialect (32 ∷ rest) ∙ ap (λ (ts : List Token). side_at sides.Input rest ∷ ts) (blank_skips dialect rest)
+side_token dialect sides.Output rest = blank_skips dialect (61 ∷ 62 ∷ 32 ∷ rest) ∙ arrow_token dialect (32 ∷ rest) ∙ ap (λ (ts : List Token). side_at sides.Output rest ∷ ts) (blank_skips dialect rest)
 
 side_ends : (side : Side) (rest : List ℕ) → is_word_end (side_text side ++ rest) ≡ true
 side_ends sides.Input rest = refl
 side_ends sides.Output rest = refl
 
 -- what stands behind the field's name
-side_spelled : (side : Side) (o : Operand) (rest : List ℕ) → IsSpelledValue o rest → before_no_dot (tokens_of rest) ≡ true
-    → Spell (breaks ∷ (spelled_side side ++ breaks ∷ spelled_inner_operand (written_operand o rest))) (tokens_of (side_text side ++ (operand_text o ++ rest))) (tokens_of rest)
-side_spelled sides.Input o rest is ends =
+side_spelled : (dialect : Dialect) (side : Side) (o : Operand) (rest : List ℕ) → IsSpelledValue dialect o rest → before_no_dot (tokens_of dialect rest) ≡ true
+    → Spell (breaks ∷ (spelled_side side ++ breaks ∷ spelled_inner_operand (written_operand o rest))) (tokens_of dialect (side_text side ++ (operand_text o ++ rest))) (tokens_of dialect rest)
+side_spelled dialect sides.Input o rest is ends =
     let u = operand_text o ++ rest in
-    let e = side_token sides.Input u in
+    let e = side_token dialect sides.Input u in
     let ps = breaks ∷ spelled_inner_operand (written_operand o rest) in
-    spell_solid (sign signs.Assign ∷ ps) (tokens_of (side_text sides.Input ++ u)) (side_at sides.Input u) (tokens_of u) (tokens_of rest) (record { is = e; solid = refl })
-    (spell_one (is_sign signs.Assign) (side_at sides.Input u) ps (tokens_of (side_text sides.Input ++ u)) (tokens_of u) (tokens_of rest) e refl
-    (spell_solid (spelled_inner_operand (written_operand o rest)) (tokens_of u) is.first is.more (tokens_of rest) is.begins (is.inner ends)))
-side_spelled sides.Output o rest is ends =
+    spell_solid (sign signs.Assign ∷ ps) (tokens_of dialect (side_text sides.Input ++ u)) (side_at sides.Input u) (tokens_of dialect u) (tokens_of dialect rest) (record { is = e; solid = refl })
+    (spell_one (is_sign signs.Assign) (side_at sides.Input u) ps (tokens_of dialect (side_text sides.Input ++ u)) (tokens_of dialect u) (tokens_of dialect rest) e refl
+    (spell_solid (spelled_inner_operand (written_operand o rest)) (tokens_of dialect u) is.first is.more (tokens_of dialect rest) is.begins (is.inner ends)))
+side_spelled dialect sides.Output o rest is ends =
     let u = operand_text o ++ rest in
-    let e = side_token sides.Output u in
+    let e = side_token dialect sides.Output u in
     let ps = breaks ∷ spelled_inner_operand (written_operand o rest) in
-    spell_solid (sign signs.Arrow ∷ ps) (tokens_of (side_text sides.Output ++ u)) (side_at sides.Output u) (tokens_of u) (tokens_of rest) (record { is = e; solid = refl })
-    (spell_one (is_sign signs.Arrow) (side_at sides.Output u) ps (tokens_of (side_text sides.Output ++ u)) (tokens_of u) (tokens_of rest) e refl
-    (spell_solid (spelled_inner_operand (written_operand o rest)) (tokens_of u) is.first is.more (tokens_of rest) is.begins (is.inner ends)))
+    spell_solid (sign signs.Arrow ∷ ps) (tokens_of dialect (side_text sides.Output ++ u)) (side_at sides.Output u) (tokens_of dialect u) (tokens_of dialect rest) (record { is = e; solid = refl })
+    (spell_one (is_sign signs.Arrow) (side_at sides.Output u) ps (tokens_of dialect (side_text sides.Output ++ u)) (tokens_of dialect u) (tokens_of dialect rest) e refl
+    (spell_solid (spelled_inner_operand (written_operand o rest)) (tokens_of dialect u) is.first is.more (tokens_of dialect rest) is.begins (is.inner ends)))
 
 argument_joined : (a : Argument) (rest : List ℕ) → argument_text a ++ rest ≡ a.field ++ (side_text a.side ++ (operand_text a.operand ++ rest))
 argument_joined a rest = append_assoc a.field (side_text a.side ++ operand_text a.operand) rest ∙ ap (λ (u : List ℕ). a.field ++ u) (append_assoc (side_text a.side) (operand_text a.operand) rest)
 
 -- what ends an argument: a comma or the right parenthesis
-record EndsArgument (rest : List ℕ) : Type 0 where
+record EndsArgument (dialect : Dialect) (rest : List ℕ) : Type 0 where
   ends : EndsOperand rest
-  no_dot : before_no_dot (tokens_of rest) ≡ true
+  no_dot : before_no_dot (tokens_of dialect rest) ≡ true
 
-argument_spelled : (ds : Declarations) (a : Argument) (rest : List ℕ) → IsListedArgument ds a → EndsArgument rest → Spell (spelled_argument (written_argument a rest)) (tokens_of (argument_text a ++ rest)) (tokens_of rest)
-argument_spelled ds a rest is ends =
+argument_spelled : (dialect : Dialect) (ds : Declarations) (a : Argument) (rest : List ℕ) → IsListedArgument dialect ds a → EndsArgument dialect rest → Spell (spelled_argument (written_argument a rest)) (tokens_of dialect (argument_text a ++ rest)) (tokens_of dialect rest)
+argument_spelled dialect ds a rest is ends =
     let u = side_text a.side ++ (operand_text a.operand ++ rest) in
     let t = token_at signs.Name a.field u in
-    let e = ap tokens_of (argument_joined a rest) ∙ name_token a.field u is.field.name (side_ends a.side (operand_text a.operand ++ rest)) in
+    let e = ap (tokens_of dialect) (argument_joined a rest) ∙ name_token dialect a.field u is.field.name (side_ends a.side (operand_text a.operand ++ rest)) in
     let ps = breaks ∷ (spelled_side a.side ++ breaks ∷ spelled_inner_operand (written_operand a.operand rest)) in
-    let ts = tokens_of (argument_text a ++ rest) in
-    spell_solid (name t ∷ ps) ts t (tokens_of u) (tokens_of rest) (record { is = e; solid = refl })
-    (spell_this (is_sign signs.Name) t ps ts (tokens_of u) (tokens_of rest) e refl (side_spelled a.side a.operand rest (value_spelled ds a.operand rest is.operand ends.ends) ends.no_dot))
+    let ts = tokens_of dialect (argument_text a ++ rest) in
+    spell_solid (name t ∷ ps) ts t (tokens_of dialect u) (tokens_of dialect rest) (record { is = e; solid = refl })
+    (spell_this (is_sign signs.Name) t ps ts (tokens_of dialect u) (tokens_of dialect rest) e refl (side_spelled dialect a.side a.operand rest (value_spelled dialect ds a.operand rest is.operand ends.ends) ends.no_dot))
 
-next_spelled : (ds : Declarations) (a : Argument) (rest : List ℕ) → IsListedArgument ds a → EndsArgument rest → Spell (spelled_next (written_argument a rest)) (tokens_of (next_argument_text a ++ rest)) (tokens_of rest)
-next_spelled ds a rest is ends =
+next_spelled : (dialect : Dialect) (ds : Declarations) (a : Argument) (rest : List ℕ) → IsListedArgument dialect ds a → EndsArgument dialect rest → Spell (spelled_next (written_argument a rest)) (tokens_of dialect (next_argument_text a ++ rest)) (tokens_of dialect rest)
+next_spelled dialect ds a rest is ends =
     let u = argument_text a ++ rest in
     let t = token_at signs.Comma (44 ∷ []) (32 ∷ u) in
-    let e = comma_token (32 ∷ u) ∙ ap (λ (ts : List Token). t ∷ ts) (blank_skips u) in
-    let ts = tokens_of (next_argument_text a ++ rest) in
-    spell_solid (sign signs.Comma ∷ spelled_argument (written_argument a rest)) ts t (tokens_of u) (tokens_of rest) (record { is = e; solid = refl })
-    (spell_one (is_sign signs.Comma) t (spelled_argument (written_argument a rest)) ts (tokens_of u) (tokens_of rest) e refl (argument_spelled ds a rest is ends))
+    let e = comma_token dialect (32 ∷ u) ∙ ap (λ (ts : List Token). t ∷ ts) (blank_skips dialect u) in
+    let ts = tokens_of dialect (next_argument_text a ++ rest) in
+    spell_solid (sign signs.Comma ∷ spelled_argument (written_argument a rest)) ts t (tokens_of dialect u) (tokens_of dialect rest) (record { is = e; solid = refl })
+    (spell_one (is_sign signs.Comma) t (spelled_argument (written_argument a rest)) ts (tokens_of dialect u) (tokens_of dialect rest) e refl (argument_spelled dialect ds a rest is ends))
 
 abbrev texts : List Argument → List ℕ → List ℕ
 texts more rest = flat_map next_argument_text more ++ rest
 
-texts_end : (more : List Argument) (rest : List ℕ) → EndsArgument (texts more (41 ∷ rest))
+texts_end : (dialect : Dialect) (more : List Argument) (rest : List ℕ) → EndsArgument dialect (texts more (41 ∷ rest))
 unfolding tokens_behind piece_of solid_piece sign_of skip_breaks
-texts_end [] rest = record { ends = record { word = refl; literal = refl; address = refl }; no_dot = refl }
-texts_end (a ∷ more) rest = record { ends = record { word = refl; literal = refl; address = refl }; no_dot = refl }
+texts_end dialect [] rest = record { ends = record { word = refl; literal = refl; address = refl }; no_dot = refl }
+texts_end dialect (a ∷ more) rest = record { ends = record { word = refl; literal = refl; address = refl }; no_dot = refl }
 
-no_comma : (rest : List ℕ) → ends_arguments (tokens_of (41 ∷ rest)) ≡ true
+no_comma : (dialect : Dialect) (rest : List ℕ) → ends_arguments (tokens_of dialect (41 ∷ rest)) ≡ true
 unfolding ends_arguments tokens_behind piece_of solid_piece sign_of skip_breaks
-no_comma rest = refl
+no_comma dialect rest = refl
 
 abbrev no_more : List Part
 no_more = ahead ends_arguments ∷ []
 
-all_spelled : (ds : Declarations) (more : List Argument) (rest : List ℕ) → AllByRecursion (IsListedArgument ds) more
-    → Spell (flat_map spelled_next (written_all more (41 ∷ rest)) ++ no_more) (tokens_of (texts more (41 ∷ rest))) (tokens_of (41 ∷ rest))
-all_spelled ds [] rest all = (no_comma rest, refl)
-all_spelled ds (a ∷ more) rest all =
+all_spelled : (dialect : Dialect) (ds : Declarations) (more : List Argument) (rest : List ℕ) → AllByRecursion (IsListedArgument dialect ds) more
+    → Spell (flat_map spelled_next (written_all more (41 ∷ rest)) ++ no_more) (tokens_of dialect (texts more (41 ∷ rest))) (tokens_of dialect (41 ∷ rest))
+all_spelled dialect ds [] rest all = (no_comma dialect rest, refl)
+all_spelled dialect ds (a ∷ more) rest all =
     let u = texts more (41 ∷ rest) in
     let x = written_argument a u in
     let qs = flat_map spelled_next (written_all more (41 ∷ rest)) in
-    let ts = tokens_of (next_argument_text a ++ u) in
-    let h = Spell-append (spelled_next x) (qs ++ no_more) ts (tokens_of u) (tokens_of (41 ∷ rest)) (next_spelled ds a u all.0 (texts_end more rest)) (all_spelled ds more rest all.1) in
-    spell_same ((spelled_next x ++ qs) ++ no_more) (tokens_of (texts (a ∷ more) (41 ∷ rest))) ts (tokens_of (41 ∷ rest)) (ap tokens_of (append_assoc (next_argument_text a) (flat_map next_argument_text more) (41 ∷ rest)))
-    (subst (λ (ps : List Part). Spell ps ts (tokens_of (41 ∷ rest))) (sym (append_assoc (spelled_next x) qs no_more)) h)
+    let ts = tokens_of dialect (next_argument_text a ++ u) in
+    let h = Spell-append (spelled_next x) (qs ++ no_more) ts (tokens_of dialect u) (tokens_of dialect (41 ∷ rest)) (next_spelled dialect ds a u all.0 (texts_end dialect more rest)) (all_spelled dialect ds more rest all.1) in
+    spell_same ((spelled_next x ++ qs) ++ no_more) (tokens_of dialect (texts (a ∷ more) (41 ∷ rest))) ts (tokens_of dialect (41 ∷ rest)) (ap (tokens_of dialect) (append_assoc (next_argument_text a) (flat_map next_argument_text more) (41 ∷ rest)))
+    (subst (λ (ps : List Part). Spell ps ts (tokens_of dialect (41 ∷ rest))) (sym (append_assoc (spelled_next x) qs no_more)) h)
 
 -- ---- calls
 
@@ -209,32 +213,32 @@ inside_joined : (a : Argument) (more : List Argument) (rest : List ℕ) → argu
 inside_joined a more rest =
     ap (λ (u : List ℕ). 40 ∷ u) (append_assoc (argument_text a) (flat_map next_argument_text more ++ codes ")") rest ∙ ap (λ (u : List ℕ). argument_text a ++ u) (append_assoc (flat_map next_argument_text more) (codes ")") rest))
 
-arguments_spelled : (ds : Declarations) (args : List Argument) (rest : List ℕ) → AllByRecursion (IsListedArgument ds) args → no_open (tokens_of rest) ≡ true → Spell (spelled_arguments (written_arguments args rest)) (tokens_of (arguments_text args ++ rest)) (tokens_of rest)
-arguments_spelled ds [] rest all ends = (ends, refl)
-arguments_spelled ds (a ∷ more) rest all ends =
+arguments_spelled : (dialect : Dialect) (ds : Declarations) (args : List Argument) (rest : List ℕ) → AllByRecursion (IsListedArgument dialect ds) args → no_open (tokens_of dialect rest) ≡ true → Spell (spelled_arguments (written_arguments args rest)) (tokens_of dialect (arguments_text args ++ rest)) (tokens_of dialect rest)
+arguments_spelled dialect ds [] rest all ends = (ends, refl)
+arguments_spelled dialect ds (a ∷ more) rest all ends =
     let u = texts more (41 ∷ rest) in
     let v = argument_text a ++ u in
     let t = token_at signs.Open (40 ∷ []) v in
     let first : begins_with 42 v ≡ false = ap (begins_with 42) (argument_joined a u) ∙ letter_not 42 a.field (side_text a.side ++ (operand_text a.operand ++ u)) refl all.0.field.name in
-    let ts = tokens_of (arguments_text (a ∷ more) ++ rest) in
-    let e : ts ≡ t ∷ tokens_of v = ap tokens_of (inside_joined a more rest) ∙ open_token v first in
+    let ts = tokens_of dialect (arguments_text (a ∷ more) ++ rest) in
+    let e : ts ≡ t ∷ tokens_of dialect v = ap (tokens_of dialect) (inside_joined a more rest) ∙ open_token dialect v first in
     let x = written_argument a u in
     let qs = flat_map spelled_next (written_all more (41 ∷ rest)) ++ no_more in
-    let inside : Spell (spelled_argument x ++ qs) (tokens_of v) (tokens_of (41 ∷ rest)) = Spell-append (spelled_argument x) qs (tokens_of v) (tokens_of u) (tokens_of (41 ∷ rest)) (argument_spelled ds a u all.0 (texts_end more rest)) (all_spelled ds more rest all.1) in
+    let inside : Spell (spelled_argument x ++ qs) (tokens_of dialect v) (tokens_of dialect (41 ∷ rest)) = Spell-append (spelled_argument x) qs (tokens_of dialect v) (tokens_of dialect u) (tokens_of dialect (41 ∷ rest)) (argument_spelled dialect ds a u all.0 (texts_end dialect more rest)) (all_spelled dialect ds more rest all.1) in
     let c = token_at signs.Close (41 ∷ []) rest in
-    let close : Spell (breaks ∷ sign signs.Close ∷ []) (tokens_of (41 ∷ rest)) (tokens_of rest) =
-    spell_solid (sign signs.Close ∷ []) (tokens_of (41 ∷ rest)) c (tokens_of rest) (tokens_of rest) (record { is = close_token rest; solid = refl })
-    (spell_one (is_sign signs.Close) c [] (tokens_of (41 ∷ rest)) (tokens_of rest) (tokens_of rest) (close_token rest) refl refl) in
-    spell_one (is_sign signs.Open) t ((spelled_argument x ++ qs) ++ breaks ∷ sign signs.Close ∷ []) ts (tokens_of v) (tokens_of rest) e refl
-    (Spell-append (spelled_argument x ++ qs) (breaks ∷ sign signs.Close ∷ []) (tokens_of v) (tokens_of (41 ∷ rest)) (tokens_of rest) inside close)
+    let close : Spell (breaks ∷ sign signs.Close ∷ []) (tokens_of dialect (41 ∷ rest)) (tokens_of dialect rest) =
+    spell_solid (sign signs.Close ∷ []) (tokens_of dialect (41 ∷ rest)) c (tokens_of dialect rest) (tokens_of dialect rest) (record { is = close_token dialect rest; solid = refl })
+    (spell_one (is_sign signs.Close) c [] (tokens_of dialect (41 ∷ rest)) (tokens_of dialect rest) (tokens_of dialect rest) (close_token dialect rest) refl refl) in
+    spell_one (is_sign signs.Open) t ((spelled_argument x ++ qs) ++ breaks ∷ sign signs.Close ∷ []) ts (tokens_of dialect v) (tokens_of dialect rest) e refl
+    (Spell-append (spelled_argument x ++ qs) (breaks ∷ sign signs.Close ∷ []) (tokens_of dialect v) (tokens_of dialect (41 ∷ rest)) (tokens_of dialect rest) inside close)
 
 pub arguments_end : (args : List Argument) (rest : List ℕ) → is_word_end rest ≡ true → is_word_end (arguments_text args ++ rest) ≡ true
 arguments_end [] rest ends = ends
 arguments_end (a ∷ more) rest ends = refl
 
-pub call_spelled : (ds : Declarations) (w : List ℕ) (args : List Argument) (rest : List ℕ) → IsFreeName w → AllByRecursion (IsListedArgument ds) args → no_open (tokens_of rest) ≡ true → is_word_end rest ≡ true
-    → Spell (spelled_call (written_call w args rest)) (tokens_of (w ++ (arguments_text args ++ rest))) (tokens_of rest)
-call_spelled ds w args rest is all ends word =
+pub call_spelled : (dialect : Dialect) (ds : Declarations) (w : List ℕ) (args : List Argument) (rest : List ℕ) → IsFreeName w → AllByRecursion (IsListedArgument dialect ds) args → no_open (tokens_of dialect rest) ≡ true → is_word_end rest ≡ true
+    → Spell (spelled_call (written_call w args rest)) (tokens_of dialect (w ++ (arguments_text args ++ rest))) (tokens_of dialect rest)
+call_spelled dialect ds w args rest is all ends word =
     let u = arguments_text args ++ rest in
-    spell_this (is_sign signs.Name) (token_at signs.Name w u) (spelled_arguments (written_arguments args rest)) (tokens_of (w ++ u)) (tokens_of u) (tokens_of rest) (name_token w u is.name (arguments_end args rest word)) refl
-    (arguments_spelled ds args rest all ends)
+    spell_this (is_sign signs.Name) (token_at signs.Name w u) (spelled_arguments (written_arguments args rest)) (tokens_of dialect (w ++ u)) (tokens_of dialect u) (tokens_of dialect rest) (name_token dialect w u is.name (arguments_end args rest word)) refl
+    (arguments_spelled dialect ds args rest all ends)

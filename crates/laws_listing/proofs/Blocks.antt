@@ -2,6 +2,7 @@
 use Rattle.std.proofs.Common.{◌≡◌, ℕ, Bool, true, false, cond, List, [], ◌∷◌, ◌++◌, Option, Some, None, refl, sym, ap, ◌∙◌, not, append_assoc}
 use Rattle.std.specs.Prelude.{codes}
 use Rattle.std.specs.List.{AllByRecursion, flat_map}
+use Rattle.il_model.specs.declared.dialect.Dialect.{Dialect}
 use Rattle.il_model.specs.declared.value.Value.{Value}
 use Rattle.il_model.specs.declared.program.Loc.{Loc}
 use Rattle.il_model.specs.declared.program.Variable.{Variable}
@@ -17,7 +18,7 @@ use Rattle.il_reader.specs.Grammar.{is_constant, no_value, ends_names, ends_bloc
 use Rattle.il_reader.specs.Spelling.{Part, breaks, ahead, this, sign, name, word, address, Spell, is_not_at, spelled_names, spelled_initial, spelled_declaration, going}
 use Rattle.il_reader.proofs.Laws.{Spell-append}
 use Rattle.il_lister.specs.Listing.{literal_text, location_text, type_name, at_text, initial_text, variable_text, instance_text}
-use Rattle.il_model.proofs.LiteralLaws.{IsValue}
+use Rattle.laws_listing.proofs.Sayable.{IsSayable}
 use Rattle.laws_listing.proofs.NameTexts.{IsName, IsFreeName, not_word, type_is, kind_is, name_by}
 use Rattle.laws_listing.proofs.Written.{token_at, literal_at, written_names, written_initial, ending, written_variable, written_instance, written_variables, written_instances}
 use Rattle.laws_listing.proofs.Declares.{IsListedVariable}
@@ -30,50 +31,50 @@ use Rattle.laws_listing.proofs.Arguments.{literal_constant, literal_solid}
 abbrev semicolon : List Part
 semicolon = breaks ∷ sign signs.Semicolon ∷ []
 
-ends_so : (rest : List ℕ) → Spell semicolon (tokens_of (ending rest)) (tokens_of (10 ∷ rest))
-ends_so rest =
+ends_so : (dialect : Dialect) (rest : List ℕ) → Spell semicolon (tokens_of dialect (ending rest)) (tokens_of dialect (10 ∷ rest))
+ends_so dialect rest =
     let t = token_at signs.Semicolon (59 ∷ []) (10 ∷ rest) in
-    let e = semicolon_token (10 ∷ rest) in
-    spell_solid (sign signs.Semicolon ∷ []) (tokens_of (ending rest)) t (tokens_of (10 ∷ rest)) (tokens_of (10 ∷ rest)) (record { is = e; solid = refl })
-    (spell_one (is_sign signs.Semicolon) t [] (tokens_of (ending rest)) (tokens_of (10 ∷ rest)) (tokens_of (10 ∷ rest)) e refl refl)
+    let e = semicolon_token dialect (10 ∷ rest) in
+    spell_solid (sign signs.Semicolon ∷ []) (tokens_of dialect (ending rest)) t (tokens_of dialect (10 ∷ rest)) (tokens_of dialect (10 ∷ rest)) (record { is = e; solid = refl })
+    (spell_one (is_sign signs.Semicolon) t [] (tokens_of dialect (ending rest)) (tokens_of dialect (10 ∷ rest)) (tokens_of dialect (10 ∷ rest)) e refl refl)
 
 -- how a declaration ends behind its type
-record EndsType (initial : Option Token) (text rest : List ℕ) : Type 0 where
+record EndsType (dialect : Dialect) (initial : Option Token) (text rest : List ℕ) : Type 0 where
   word : is_word_end (text ++ ending rest) ≡ true
-  spelled : Spell (breaks ∷ (spelled_initial initial ++ semicolon)) (tokens_of (text ++ ending rest)) (tokens_of (10 ∷ rest))
+  spelled : Spell (breaks ∷ (spelled_initial initial ++ semicolon)) (tokens_of dialect (text ++ ending rest)) (tokens_of dialect (10 ∷ rest))
 
-no_initial : (rest : List ℕ) → EndsType None [] rest
-no_initial rest =
+no_initial : (dialect : Dialect) (rest : List ℕ) → EndsType dialect None [] rest
+no_initial dialect rest =
     let t = token_at signs.Semicolon (59 ∷ []) (10 ∷ rest) in
-    let e = semicolon_token (10 ∷ rest) in
+    let e = semicolon_token dialect (10 ∷ rest) in
     record {
       word = refl;
-      spelled = spell_solid (ahead no_value ∷ semicolon) (tokens_of (ending rest)) t (tokens_of (10 ∷ rest)) (tokens_of (10 ∷ rest)) (record { is = e; solid = refl })
-          (spell_ahead no_value semicolon (tokens_of (ending rest)) (tokens_of (10 ∷ rest)) (ap no_value e) (ends_so rest));
+      spelled = spell_solid (ahead no_value ∷ semicolon) (tokens_of dialect (ending rest)) t (tokens_of dialect (10 ∷ rest)) (tokens_of dialect (10 ∷ rest)) (record { is = e; solid = refl })
+          (spell_ahead no_value semicolon (tokens_of dialect (ending rest)) (tokens_of dialect (10 ∷ rest)) (ap no_value e) (ends_so dialect rest));
     }
 
-some_initial : (v : Value) (rest : List ℕ) → IsValue v → EndsType (Some (literal_at v (ending rest))) (codes " := " ++ literal_text v) rest
-some_initial v rest is =
+some_initial : (dialect : Dialect) (v : Value) (rest : List ℕ) → IsSayable dialect v → EndsType dialect (Some (literal_at v (ending rest))) (codes " := " ++ literal_text v) rest
+some_initial dialect v rest is =
     let u = literal_text v ++ ending rest in
     let a = token_at signs.Assign (58 ∷ 61 ∷ []) (32 ∷ u) in
-    let e = blank_skips (58 ∷ 61 ∷ 32 ∷ u) ∙ assign_token (32 ∷ u) ∙ ap (λ (ts : List Token). a ∷ ts) (blank_skips u) in
+    let e = blank_skips dialect (58 ∷ 61 ∷ 32 ∷ u) ∙ assign_token dialect (32 ∷ u) ∙ ap (λ (ts : List Token). a ∷ ts) (blank_skips dialect u) in
     let t = literal_at v (ending rest) in
-    let f = literal_token v (ending rest) is (record { word = refl; literal = refl; address = refl }) in
-    let ts = tokens_of (codes " := " ++ u) in
+    let f = literal_token dialect v (ending rest) is (record { word = refl; literal = refl; address = refl }) in
+    let ts = tokens_of dialect (codes " := " ++ u) in
     record {
       word = refl;
-      spelled = spell_solid (sign signs.Assign ∷ breaks ∷ this is_constant t ∷ semicolon) ts a (tokens_of u) (tokens_of (10 ∷ rest)) (record { is = e; solid = refl })
-          (spell_one (is_sign signs.Assign) a (breaks ∷ this is_constant t ∷ semicolon) ts (tokens_of u) (tokens_of (10 ∷ rest)) e refl
-          (spell_solid (this is_constant t ∷ semicolon) (tokens_of u) t (tokens_of (ending rest)) (tokens_of (10 ∷ rest)) (record { is = f; solid = literal_solid v (ending rest) })
-          (spell_this is_constant t semicolon (tokens_of u) (tokens_of (ending rest)) (tokens_of (10 ∷ rest)) f (literal_constant v (ending rest)) (ends_so rest))));
+      spelled = spell_solid (sign signs.Assign ∷ breaks ∷ this is_constant t ∷ semicolon) ts a (tokens_of dialect u) (tokens_of dialect (10 ∷ rest)) (record { is = e; solid = refl })
+          (spell_one (is_sign signs.Assign) a (breaks ∷ this is_constant t ∷ semicolon) ts (tokens_of dialect u) (tokens_of dialect (10 ∷ rest)) e refl
+          (spell_solid (this is_constant t ∷ semicolon) (tokens_of dialect u) t (tokens_of dialect (ending rest)) (tokens_of dialect (10 ∷ rest)) (record { is = f; solid = literal_solid v (ending rest) })
+          (spell_this is_constant t semicolon (tokens_of dialect u) (tokens_of dialect (ending rest)) (tokens_of dialect (10 ∷ rest)) f (literal_constant v (ending rest)) (ends_so dialect rest))));
     }
 
-initial_by : (b : Bool) (v : Value) (rest : List ℕ) → IsValue v → EndsType (cond b None (Some (literal_at v (ending rest)))) (cond b [] (codes " := " ++ literal_text v)) rest
-initial_by true v rest is = no_initial rest
-initial_by false v rest is = some_initial v rest is
+initial_by : (dialect : Dialect) (b : Bool) (v : Value) (rest : List ℕ) → IsSayable dialect v → EndsType dialect (cond b None (Some (literal_at v (ending rest)))) (cond b [] (codes " := " ++ literal_text v)) rest
+initial_by dialect true v rest is = no_initial dialect rest
+initial_by dialect false v rest is = some_initial dialect v rest is
 
-initial_ends : (v : Value) (rest : List ℕ) → IsValue v → EndsType (written_initial v (ending rest)) (initial_text v) rest
-initial_ends v rest is = initial_by (is_zero (number_of v)) v rest is
+initial_ends : (dialect : Dialect) (v : Value) (rest : List ℕ) → IsSayable dialect v → EndsType dialect (written_initial v (ending rest)) (initial_text v) rest
+initial_ends dialect v rest is = initial_by dialect (is_zero (number_of v)) v rest is
 
 -- ---- behind the names
 
@@ -89,24 +90,24 @@ type_token ty text rest = token_at signs.Name ty (text ++ ending rest)
 abbrev colon : List ℕ → List ℕ → List ℕ → Token
 colon ty text rest = token_at signs.Colon (58 ∷ []) (32 ∷ (ty ++ (text ++ ending rest)))
 
-colon_is : (ty text rest : List ℕ) → tokens_of (typed ty text rest) ≡ colon ty text rest ∷ tokens_of (ty ++ (text ++ ending rest))
-colon_is ty text rest =
+colon_is : (dialect : Dialect) (ty text rest : List ℕ) → tokens_of dialect (typed ty text rest) ≡ colon ty text rest ∷ tokens_of dialect (ty ++ (text ++ ending rest))
+colon_is dialect ty text rest =
     let u = ty ++ (text ++ ending rest) in
-    blank_skips (58 ∷ 32 ∷ u) ∙ colon_token (32 ∷ u) refl ∙ ap (λ (ts : List Token). colon ty text rest ∷ ts) (blank_skips u)
+    blank_skips dialect (58 ∷ 32 ∷ u) ∙ colon_token dialect (32 ∷ u) refl ∙ ap (λ (ts : List Token). colon ty text rest ∷ ts) (blank_skips dialect u)
 
-type_spelled : (ty : List ℕ) (initial : Option Token) (text rest : List ℕ) → IsName ty → EndsType initial text rest → Spell (type_parts (type_token ty text rest) initial) (tokens_of (typed ty text rest)) (tokens_of (10 ∷ rest))
-type_spelled ty initial text rest is ends =
+type_spelled : (dialect : Dialect) (ty : List ℕ) (initial : Option Token) (text rest : List ℕ) → IsName ty → EndsType dialect initial text rest → Spell (type_parts (type_token ty text rest) initial) (tokens_of dialect (typed ty text rest)) (tokens_of dialect (10 ∷ rest))
+type_spelled dialect ty initial text rest is ends =
     let u = ty ++ (text ++ ending rest) in
     let v = text ++ ending rest in
-    let ts = tokens_of (typed ty text rest) in
-    let e = colon_is ty text rest in
+    let ts = tokens_of dialect (typed ty text rest) in
+    let e = colon_is dialect ty text rest in
     let t = type_token ty text rest in
-    let f = name_token ty v is ends.word in
+    let f = name_token dialect ty v is ends.word in
     let ps = breaks ∷ (spelled_initial initial ++ semicolon) in
-    spell_solid (sign signs.Colon ∷ breaks ∷ name t ∷ ps) ts (colon ty text rest) (tokens_of u) (tokens_of (10 ∷ rest)) (record { is = e; solid = refl })
-    (spell_one (is_sign signs.Colon) (colon ty text rest) (breaks ∷ name t ∷ ps) ts (tokens_of u) (tokens_of (10 ∷ rest)) e refl
-    (spell_solid (name t ∷ ps) (tokens_of u) t (tokens_of v) (tokens_of (10 ∷ rest)) (record { is = f; solid = refl })
-    (spell_this (is_sign signs.Name) t ps (tokens_of u) (tokens_of v) (tokens_of (10 ∷ rest)) f refl ends.spelled)))
+    spell_solid (sign signs.Colon ∷ breaks ∷ name t ∷ ps) ts (colon ty text rest) (tokens_of dialect u) (tokens_of dialect (10 ∷ rest)) (record { is = e; solid = refl })
+    (spell_one (is_sign signs.Colon) (colon ty text rest) (breaks ∷ name t ∷ ps) ts (tokens_of dialect u) (tokens_of dialect (10 ∷ rest)) e refl
+    (spell_solid (name t ∷ ps) (tokens_of dialect u) t (tokens_of dialect v) (tokens_of dialect (10 ∷ rest)) (record { is = f; solid = refl })
+    (spell_this (is_sign signs.Name) t ps (tokens_of dialect u) (tokens_of dialect v) (tokens_of dialect (10 ∷ rest)) f refl ends.spelled)))
 
 -- ---- the names
 
@@ -118,33 +119,33 @@ at_word : (rest : List ℕ) → is_word_token (codes "AT") (token_at signs.Name 
 unfolding spells
 at_word rest = refl
 
-names_by : (o : Option Loc) (ty : List ℕ) (initial : Option Token) (text rest : List ℕ) → IsName ty → EndsType initial text rest
-    → Spell (breaks ∷ (spelled_names (written_names o (typed ty text rest)) ++ type_parts (type_token ty text rest) initial)) (tokens_of (at_text o ++ typed ty text rest)) (tokens_of (10 ∷ rest))
+names_by : (dialect : Dialect) (o : Option Loc) (ty : List ℕ) (initial : Option Token) (text rest : List ℕ) → IsName ty → EndsType dialect initial text rest
+    → Spell (breaks ∷ (spelled_names (written_names o (typed ty text rest)) ++ type_parts (type_token ty text rest) initial)) (tokens_of dialect (at_text o ++ typed ty text rest)) (tokens_of dialect (10 ∷ rest))
 unfolding ends_names
-names_by None ty initial text rest is ends =
+names_by dialect None ty initial text rest is ends =
     let u = ty ++ (text ++ ending rest) in
-    let ts = tokens_of (typed ty text rest) in
+    let ts = tokens_of dialect (typed ty text rest) in
     let c = colon ty text rest in
-    let e = colon_is ty text rest in
+    let e = colon_is dialect ty text rest in
     let ps = type_parts (type_token ty text rest) initial in
-    let b : Begins ts c (tokens_of u) = record { is = e; solid = refl } in
-    let none : ends_names ts ≡ true = ap (λ (us : List Token). not (next_is signs.Comma us)) (skip_none ts c (tokens_of u) b ∙ e) in
-    spell_solid (ahead is_not_at ∷ ahead ends_names ∷ ps) ts c (tokens_of u) (tokens_of (10 ∷ rest)) b
-    (spell_ahead is_not_at (ahead ends_names ∷ ps) ts (tokens_of (10 ∷ rest)) (ap is_not_at e)
-    (spell_ahead ends_names ps ts (tokens_of (10 ∷ rest)) none (type_spelled ty initial text rest is ends)))
-names_by (Some loc) ty initial text rest is ends =
+    let b : Begins ts c (tokens_of dialect u) = record { is = e; solid = refl } in
+    let none : ends_names ts ≡ true = ap (λ (us : List Token). not (next_is signs.Comma us)) (skip_none ts c (tokens_of dialect u) b ∙ e) in
+    spell_solid (ahead is_not_at ∷ ahead ends_names ∷ ps) ts c (tokens_of dialect u) (tokens_of dialect (10 ∷ rest)) b
+    (spell_ahead is_not_at (ahead ends_names ∷ ps) ts (tokens_of dialect (10 ∷ rest)) (ap is_not_at e)
+    (spell_ahead ends_names ps ts (tokens_of dialect (10 ∷ rest)) none (type_spelled dialect ty initial text rest is ends)))
+names_by dialect (Some loc) ty initial text rest is ends =
     let v = typed ty text rest in
     let u = location_text loc ++ v in
-    let ts = tokens_of (at_text (Some loc) ++ v) in
+    let ts = tokens_of dialect (at_text (Some loc) ++ v) in
     let a = token_at signs.Name (codes "AT") (32 ∷ u) in
-    let e : ts ≡ a ∷ tokens_of u = blank_skips (codes "AT" ++ (32 ∷ u)) ∙ name_token (codes "AT") (32 ∷ u) at_is refl ∙ ap (λ (us : List Token). a ∷ us) (blank_skips u) in
+    let e : ts ≡ a ∷ tokens_of dialect u = blank_skips dialect (codes "AT" ++ (32 ∷ u)) ∙ name_token dialect (codes "AT") (32 ∷ u) at_is refl ∙ ap (λ (us : List Token). a ∷ us) (blank_skips dialect u) in
     let t = token_at signs.Address (location_text loc) v in
-    let f = location_token loc v (record { word = refl; literal = refl; address = refl }) in
+    let f = location_token dialect loc v (record { word = refl; literal = refl; address = refl }) in
     let ps = type_parts (type_token ty text rest) initial in
-    spell_solid (word (codes "AT") ∷ breaks ∷ address t ∷ ps) ts a (tokens_of u) (tokens_of (10 ∷ rest)) (record { is = e; solid = refl })
-    (spell_one (is_word_token (codes "AT")) a (breaks ∷ address t ∷ ps) ts (tokens_of u) (tokens_of (10 ∷ rest)) e (at_word (32 ∷ u))
-    (spell_solid (address t ∷ ps) (tokens_of u) t (tokens_of v) (tokens_of (10 ∷ rest)) (record { is = f; solid = refl })
-    (spell_this (is_sign signs.Address) t ps (tokens_of u) (tokens_of v) (tokens_of (10 ∷ rest)) f refl (type_spelled ty initial text rest is ends))))
+    spell_solid (word (codes "AT") ∷ breaks ∷ address t ∷ ps) ts a (tokens_of dialect u) (tokens_of dialect (10 ∷ rest)) (record { is = e; solid = refl })
+    (spell_one (is_word_token (codes "AT")) a (breaks ∷ address t ∷ ps) ts (tokens_of dialect u) (tokens_of dialect (10 ∷ rest)) e (at_word (32 ∷ u))
+    (spell_solid (address t ∷ ps) (tokens_of dialect u) t (tokens_of dialect v) (tokens_of dialect (10 ∷ rest)) (record { is = f; solid = refl })
+    (spell_this (is_sign signs.Address) t ps (tokens_of dialect u) (tokens_of dialect v) (tokens_of dialect (10 ∷ rest)) f refl (type_spelled dialect ty initial text rest is ends))))
 
 -- ---- one declaration
 
@@ -165,26 +166,26 @@ name_ends None rest = refl
 name_ends (Some loc) rest = refl
 
 -- a declaration goes on where it begins
-goes : (w behind : List ℕ) → IsFreeName w → is_word_end behind ≡ true → not (ends_block (tokens_of (10 ∷ (w ++ behind)))) ≡ true
+goes : (dialect : Dialect) (w behind : List ℕ) → IsFreeName w → is_word_end behind ≡ true → not (ends_block (tokens_of dialect (10 ∷ (w ++ behind)))) ≡ true
 unfolding ends_block
-goes w behind is ends =
+goes dialect w behind is ends =
     let u = w ++ behind in
-    let e = name_token w behind is.name ends in
-    rw (skip_one u (tokens_of (10 ∷ u)) (token_at signs.Name w behind) (tokens_of behind) (break_token u) (record { is = e; solid = refl }), e, not_word (codes "END_VAR") w end_reserved is) refl
+    let e = name_token dialect w behind is.name ends in
+    rw (skip_one dialect u (tokens_of dialect (10 ∷ u)) (token_at signs.Name w behind) (tokens_of dialect behind) (break_token dialect u) (record { is = e; solid = refl }), e, not_word (codes "END_VAR") w end_reserved is) refl
 
-declaration_spelled : (w : List ℕ) (o : Option Loc) (ty : List ℕ) (initial : Option Token) (text rest : List ℕ) → IsFreeName w → IsName ty → EndsType initial text rest
-    → Spell (going ends_block spelled_declaration (declared w o ty initial text rest)) (tokens_of (10 ∷ (w ++ (at_text o ++ typed ty text rest)))) (tokens_of (10 ∷ rest))
-declaration_spelled w o ty initial text rest free is ends =
+declaration_spelled : (dialect : Dialect) (w : List ℕ) (o : Option Loc) (ty : List ℕ) (initial : Option Token) (text rest : List ℕ) → IsFreeName w → IsName ty → EndsType dialect initial text rest
+    → Spell (going ends_block spelled_declaration (declared w o ty initial text rest)) (tokens_of dialect (10 ∷ (w ++ (at_text o ++ typed ty text rest)))) (tokens_of dialect (10 ∷ rest))
+declaration_spelled dialect w o ty initial text rest free is ends =
     let behind = at_text o ++ typed ty text rest in
     let u = w ++ behind in
-    let ts = tokens_of (10 ∷ u) in
+    let ts = tokens_of dialect (10 ∷ u) in
     let t = token_at signs.Name w behind in
     let last = name_ends o (58 ∷ 32 ∷ (ty ++ (text ++ ending rest))) in
-    let e = name_token w behind free.name last in
+    let e = name_token dialect w behind free.name last in
     let ps = breaks ∷ (spelled_names (written_names o (typed ty text rest)) ++ type_parts (type_token ty text rest) initial) in
-    spell_ahead (λ us. not (ends_block us)) (breaks ∷ name t ∷ ps) ts (tokens_of (10 ∷ rest)) (goes w behind free last)
-    (spell_break (name t ∷ ps) ts u t (tokens_of behind) (tokens_of (10 ∷ rest)) (break_token u) (record { is = e; solid = refl })
-    (spell_this (is_sign signs.Name) t ps (tokens_of u) (tokens_of behind) (tokens_of (10 ∷ rest)) e refl (names_by o ty initial text rest is ends)))
+    spell_ahead (λ us. not (ends_block us)) (breaks ∷ name t ∷ ps) ts (tokens_of dialect (10 ∷ rest)) (goes dialect w behind free last)
+    (spell_break dialect (name t ∷ ps) ts u t (tokens_of dialect behind) (tokens_of dialect (10 ∷ rest)) (break_token dialect u) (record { is = e; solid = refl })
+    (spell_this (is_sign signs.Name) t ps (tokens_of dialect u) (tokens_of dialect behind) (tokens_of dialect (10 ∷ rest)) e refl (names_by dialect o ty initial text rest is ends)))
 
 variable_joined : (v : Variable) (rest : List ℕ) → variable_text v ++ rest ≡ v.name ++ (at_text v.location ++ typed (type_name v.ty) (initial_text v.initial) rest)
 variable_joined v rest = simp append_assoc refl
@@ -192,17 +193,17 @@ variable_joined v rest = simp append_assoc refl
 instance_joined : (x : Instance) (rest : List ℕ) → instance_text x ++ rest ≡ x.name ++ typed (kind_name x.kind) [] rest
 instance_joined x rest = simp append_assoc refl
 
-variable_spelled : (v : Variable) (rest : List ℕ) → IsFreeName v.name → IsValue v.initial → Spell (going ends_block spelled_declaration (written_variable v rest)) (tokens_of (10 ∷ (variable_text v ++ rest))) (tokens_of (10 ∷ rest))
-variable_spelled v rest is value =
-    spell_same (going ends_block spelled_declaration (written_variable v rest)) (tokens_of (10 ∷ (variable_text v ++ rest))) (tokens_of (10 ∷ (v.name ++ (at_text v.location ++ typed (type_name v.ty) (initial_text v.initial) rest)))) (tokens_of (10 ∷ rest))
-    (ap (λ (u : List ℕ). tokens_of (10 ∷ u)) (variable_joined v rest))
-    (declaration_spelled v.name v.location (type_name v.ty) (written_initial v.initial (ending rest)) (initial_text v.initial) rest is (type_is v.ty) (initial_ends v.initial rest value))
+variable_spelled : (dialect : Dialect) (v : Variable) (rest : List ℕ) → IsFreeName v.name → IsSayable dialect v.initial → Spell (going ends_block spelled_declaration (written_variable v rest)) (tokens_of dialect (10 ∷ (variable_text v ++ rest))) (tokens_of dialect (10 ∷ rest))
+variable_spelled dialect v rest is value =
+    spell_same (going ends_block spelled_declaration (written_variable v rest)) (tokens_of dialect (10 ∷ (variable_text v ++ rest))) (tokens_of dialect (10 ∷ (v.name ++ (at_text v.location ++ typed (type_name v.ty) (initial_text v.initial) rest)))) (tokens_of dialect (10 ∷ rest))
+    (ap (λ (u : List ℕ). (tokens_of dialect) (10 ∷ u)) (variable_joined v rest))
+    (declaration_spelled dialect v.name v.location (type_name v.ty) (written_initial v.initial (ending rest)) (initial_text v.initial) rest is (type_is v.ty) (initial_ends dialect v.initial rest value))
 
-instance_spelled : (x : Instance) (rest : List ℕ) → IsFreeName x.name → Spell (going ends_block spelled_declaration (written_instance x rest)) (tokens_of (10 ∷ (instance_text x ++ rest))) (tokens_of (10 ∷ rest))
-instance_spelled x rest is =
-    spell_same (going ends_block spelled_declaration (written_instance x rest)) (tokens_of (10 ∷ (instance_text x ++ rest))) (tokens_of (10 ∷ (x.name ++ typed (kind_name x.kind) [] rest))) (tokens_of (10 ∷ rest))
-    (ap (λ (u : List ℕ). tokens_of (10 ∷ u)) (instance_joined x rest))
-    (declaration_spelled x.name None (kind_name x.kind) None [] rest is (kind_is x.kind) (no_initial rest))
+instance_spelled : (dialect : Dialect) (x : Instance) (rest : List ℕ) → IsFreeName x.name → Spell (going ends_block spelled_declaration (written_instance x rest)) (tokens_of dialect (10 ∷ (instance_text x ++ rest))) (tokens_of dialect (10 ∷ rest))
+instance_spelled dialect x rest is =
+    spell_same (going ends_block spelled_declaration (written_instance x rest)) (tokens_of dialect (10 ∷ (instance_text x ++ rest))) (tokens_of dialect (10 ∷ (x.name ++ typed (kind_name x.kind) [] rest))) (tokens_of dialect (10 ∷ rest))
+    (ap (λ (u : List ℕ). (tokens_of dialect) (10 ∷ u)) (instance_joined x rest))
+    (declaration_spelled dialect x.name None (kind_name x.kind) None [] rest is (kind_is x.kind) (no_initial dialect rest))
 
 -- ---- all of them
 
@@ -213,20 +214,20 @@ pub parts_both : (ds es : List DeclarationText) → parts (ds ++ es) ≡ parts d
 parts_both [] es = refl
 parts_both (d ∷ ds) es = ap (λ (ps : List Part). going ends_block spelled_declaration d ++ ps) (parts_both ds es) ∙ sym (append_assoc (going ends_block spelled_declaration d) (parts ds) (parts es))
 
-pub variables_spelled : (vs : List Variable) (rest : List ℕ) → AllByRecursion IsListedVariable vs → Spell (parts (written_variables vs rest)) (tokens_of (10 ∷ (flat_map variable_text vs ++ rest))) (tokens_of (10 ∷ rest))
-variables_spelled [] rest all = refl
-variables_spelled (v ∷ vs) rest all =
+pub variables_spelled : (dialect : Dialect) (vs : List Variable) (rest : List ℕ) → AllByRecursion (IsListedVariable dialect) vs → Spell (parts (written_variables vs rest)) (tokens_of dialect (10 ∷ (flat_map variable_text vs ++ rest))) (tokens_of dialect (10 ∷ rest))
+variables_spelled dialect [] rest all = refl
+variables_spelled dialect (v ∷ vs) rest all =
     let u = flat_map variable_text vs ++ rest in
     let x = written_variable v u in
     let ps = going ends_block spelled_declaration x ++ parts (written_variables vs rest) in
-    spell_same ps (tokens_of (10 ∷ ((variable_text v ++ flat_map variable_text vs) ++ rest))) (tokens_of (10 ∷ (variable_text v ++ u))) (tokens_of (10 ∷ rest)) (ap (λ (t : List ℕ). tokens_of (10 ∷ t)) (append_assoc (variable_text v) (flat_map variable_text vs) rest))
-    (Spell-append (going ends_block spelled_declaration x) (parts (written_variables vs rest)) (tokens_of (10 ∷ (variable_text v ++ u))) (tokens_of (10 ∷ u)) (tokens_of (10 ∷ rest)) (variable_spelled v u all.0.name all.0.value) (variables_spelled vs rest all.1))
+    spell_same ps (tokens_of dialect (10 ∷ ((variable_text v ++ flat_map variable_text vs) ++ rest))) (tokens_of dialect (10 ∷ (variable_text v ++ u))) (tokens_of dialect (10 ∷ rest)) (ap (λ (t : List ℕ). (tokens_of dialect) (10 ∷ t)) (append_assoc (variable_text v) (flat_map variable_text vs) rest))
+    (Spell-append (going ends_block spelled_declaration x) (parts (written_variables vs rest)) (tokens_of dialect (10 ∷ (variable_text v ++ u))) (tokens_of dialect (10 ∷ u)) (tokens_of dialect (10 ∷ rest)) (variable_spelled dialect v u all.0.name all.0.value) (variables_spelled dialect vs rest all.1))
 
-pub instances_spelled : (xs : List Instance) (rest : List ℕ) → AllByRecursion (λ (x : Instance). IsFreeName x.name) xs → Spell (parts (written_instances xs rest)) (tokens_of (10 ∷ (flat_map instance_text xs ++ rest))) (tokens_of (10 ∷ rest))
-instances_spelled [] rest all = refl
-instances_spelled (x ∷ xs) rest all =
+pub instances_spelled : (dialect : Dialect) (xs : List Instance) (rest : List ℕ) → AllByRecursion (λ (x : Instance). IsFreeName x.name) xs → Spell (parts (written_instances xs rest)) (tokens_of dialect (10 ∷ (flat_map instance_text xs ++ rest))) (tokens_of dialect (10 ∷ rest))
+instances_spelled dialect [] rest all = refl
+instances_spelled dialect (x ∷ xs) rest all =
     let u = flat_map instance_text xs ++ rest in
     let y = written_instance x u in
     let ps = going ends_block spelled_declaration y ++ parts (written_instances xs rest) in
-    spell_same ps (tokens_of (10 ∷ ((instance_text x ++ flat_map instance_text xs) ++ rest))) (tokens_of (10 ∷ (instance_text x ++ u))) (tokens_of (10 ∷ rest)) (ap (λ (t : List ℕ). tokens_of (10 ∷ t)) (append_assoc (instance_text x) (flat_map instance_text xs) rest))
-    (Spell-append (going ends_block spelled_declaration y) (parts (written_instances xs rest)) (tokens_of (10 ∷ (instance_text x ++ u))) (tokens_of (10 ∷ u)) (tokens_of (10 ∷ rest)) (instance_spelled x u all.0) (instances_spelled xs rest all.1))
+    spell_same ps (tokens_of dialect (10 ∷ ((instance_text x ++ flat_map instance_text xs) ++ rest))) (tokens_of dialect (10 ∷ (instance_text x ++ u))) (tokens_of dialect (10 ∷ rest)) (ap (λ (t : List ℕ). (tokens_of dialect) (10 ∷ t)) (append_assoc (instance_text x) (flat_map instance_text xs) rest))
+    (Spell-append (going ends_block spelled_declaration y) (parts (written_instances xs rest)) (tokens_of dialect (10 ∷ (instance_text x ++ u))) (tokens_of dialect (10 ∷ u)) (tokens_of dialect (10 ∷ rest)) (instance_spelled dialect x u all.0) (instances_spelled dialect xs rest all.1))

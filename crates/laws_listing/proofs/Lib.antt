@@ -1,5 +1,7 @@
 pub mod Fronts
+pub mod Sayable
 pub mod Numerals
+pub mod RealTexts
 pub mod LiteralTexts
 pub mod LocationTexts
 pub mod NameTexts

@@ -4,6 +4,7 @@ use Rattle.std.specs.Prelude.{is_some, slice_get, nat_eq, ◌^◌, ℤ, pos, neg
 use Rattle.std.specs.List.{AllByRecursion, position}
 use Rattle.std.specs.Option.{option_map, option_and_then}
 use Rattle.std.proofs.lemmas.Slice.Eq.{bytes_eq-Decides}
+use Rattle.il_model.specs.declared.dialect.Dialect.{Dialect}
 use Rattle.il_model.specs.declared.value.Ty.{Ty}
 use Rattle.il_model.specs.declared.value.Ty.TheVariants as types
 use Rattle.il_model.specs.declared.value.Value.{Value}
@@ -29,13 +30,13 @@ use Rattle.il_model.specs.Resolved.{variable_place, place_of, source_of, instanc
 use Rattle.il_model.specs.Checking.{arguments_fault}
 use Rattle.il_model.specs.Marks.{Mark, with_mark, marks_from, word_count}
 use Rattle.il_model.specs.Constants.{constants_of}
-use Rattle.il_model.specs.Image.{modifier_code, operand_code}
+use Rattle.il_model.specs.Image.{modifier_code, operand_code, may_keep, may_write}
 use Rattle.il_model.specs.declared.coded_operand.CodedOperand.{CodedOperand}
 use Rattle.il_model.specs.declared.coded_operand.CodedOperand.TheVariants as coded
 use Rattle.il_model.specs.CodedOperands.{IsCell, HasOwnCode, with_code}
 use Rattle.il_model.proofs.CodedOperands.{coded_back}
 use Rattle.il_model.specs.Codes.{if_passes, is_new_name, is_number, usage_of, has_form, allowed_by, formed_by, is_jump, is_call, modifier_of, variable_named, instance_named, field_named, named_operand, value_operand, numbered_operand, is_pointless, is_known, target_name, label_there}
-use Rattle.il_model.specs.Fits.{IsVariable, IsInstance, IsMark, IsConstant, IsPassing, IsWord, AreItems, IsProgram, IsImage}
+use Rattle.il_model.specs.Fits.{IsVariable, IsInstance, IsMark, IsConstant, IsPassing, IsWord, AreItems, IsProgram}
 use Rattle.il_model.proofs.Positions.{position_later}
 use Rattle.il_model.proofs.Declared.{field_so}
 use Rattle.il_model.proofs.TypedLines.{IsArgumentOf, arguments_typed, no_arguments}
@@ -44,39 +45,42 @@ use Rattle.il_model.proofs.Judged.{faultless}
 use Rattle.il_declarations.specs.Walk.{has_name, has_instance}
 use Rattle.laws_listing.proofs.Fronts.{both_true}
 use Rattle.il_model.proofs.LiteralLaws.{IsValue}
+use Rattle.il_model.proofs.RealValues.{real_is, real_again}
+use Rattle.laws_listing.proofs.Sayable.{newest, IsSayable, IsSayableProgram}
 use Rattle.laws_listing.proofs.NameTexts.{IsFreeName, IsFieldName, lawful_free, field_is}
 
 -- ---- what is listed
 
--- a value, or a place that is there
-abbrev pub IsValueOperand : Declarations → Operand → Type 0
-IsValueOperand ds (operands.Literal v) = IsValue v
-IsValueOperand ds (operands.Variable name) = IsFreeName name × (has_name ds name ≡ true)
-IsValueOperand ds (operands.Direct loc) = IsCell loc
-IsValueOperand ds (operands.Field name field) = IsFreeName name × IsFieldName field × (has_instance ds name ≡ true)
-IsValueOperand ds operand = ⊥
+-- a value that can be said, or a place that is there
+abbrev pub IsValueOperand : (dialect : Dialect) → Declarations → Operand → Type 0
+IsValueOperand dialect ds (operands.Literal v) = IsSayable dialect v
+IsValueOperand dialect ds (operands.Variable name) = IsFreeName name × (has_name ds name ≡ true)
+IsValueOperand dialect ds (operands.Direct loc) = IsCell loc
+IsValueOperand dialect ds (operands.Field name field) = IsFreeName name × IsFieldName field × (has_instance ds name ≡ true)
+IsValueOperand dialect ds operand = ⊥
 
 -- or none, a label or an instance
-abbrev pub IsListedOperand : Declarations → Operand → Type 0
-IsListedOperand ds operands.Absent = Unit {0}
-IsListedOperand ds (operands.Label name) = IsFreeName name
-IsListedOperand ds (operands.Instance name) = IsFreeName name × (has_instance ds name ≡ true)
-IsListedOperand ds operand = IsValueOperand ds operand
+abbrev pub IsListedOperand : (dialect : Dialect) → Declarations → Operand → Type 0
+IsListedOperand dialect ds operands.Absent = Unit {0}
+IsListedOperand dialect ds (operands.Label name) = IsFreeName name
+IsListedOperand dialect ds (operands.Instance name) = IsFreeName name × (has_instance ds name ≡ true)
+IsListedOperand dialect ds operand = IsValueOperand dialect ds operand
 
-pub record IsListedArgument (ds : Declarations) (a : Argument) : Type 0 where
+pub record IsListedArgument (dialect : Dialect) (ds : Declarations) (a : Argument) : Type 0 where
   pub field : IsFieldName a.field
-  pub operand : IsValueOperand ds a.operand
+  pub operand : IsValueOperand dialect ds a.operand
 
 abbrev pub IsListedLabel : Option (List ℕ) → Type 0
 IsListedLabel None = Unit {0}
 IsListedLabel (Some name) = IsFreeName name
 
-pub record IsListedLine (ds : Declarations) (line : Instr) : Type 0 where
+pub record IsListedLine (dialect : Dialect) (ds : Declarations) (line : Instr) : Type 0 where
   pub label : IsListedLabel line.label
+  pub known : may_write (newest dialect) line ≡ true
   pub letters : allowed_by (usage_of line.op) line.modifier ≡ true
   pub form : formed_by (usage_of line.op) line.modifier line.operand ≡ true
-  pub operand : IsListedOperand ds line.operand
-  pub arguments : AllByRecursion (IsListedArgument ds) line.arguments
+  pub operand : IsListedOperand dialect ds line.operand
+  pub arguments : AllByRecursion (IsListedArgument dialect ds) line.arguments
   pub called : (is_call line.op || nat_eq (length line.arguments) 0) ≡ true
   pub labelled : is_pointless line ≡ false
 
@@ -150,52 +154,52 @@ found_label (line ∷ code) name i e all = by_test (has_label name line) refl (�
 
 -- ---- places and values
 
--- what is read from a number has a value of its range, or a place that is there
-abbrev IsRead : Operand → Type 0
-IsRead (operands.Literal v) = IsValue v
-IsRead (operands.Direct loc) = IsCell loc
-IsRead operand = Unit {0}
+-- what is read from a number has a value that can be said, or a place that is there
+abbrev IsRead : (dialect : Dialect) → Operand → Type 0
+IsRead dialect (operands.Literal v) = IsSayable dialect v
+IsRead dialect (operands.Direct loc) = IsCell loc
+IsRead dialect operand = Unit {0}
 
-variable_read : (x : Option Variable) (o : Operand) → variable_named x ≡ Some o → IsRead o
-variable_read None o e = absurd cc
-variable_read (Some v) o e = subst IsRead (some_is (operands.Variable v.name) o e) tt
+variable_read : (dialect : Dialect) (x : Option Variable) (o : Operand) → variable_named x ≡ Some o → IsRead dialect o
+variable_read dialect None o e = absurd cc
+variable_read dialect (Some v) o e = subst (IsRead dialect) (some_is (operands.Variable v.name) o e) tt
 
-instance_read : (x : Option Instance) (o : Operand) → instance_named x ≡ Some o → IsRead o
-instance_read None o e = absurd cc
-instance_read (Some x) o e = subst IsRead (some_is (operands.Instance x.name) o e) tt
+instance_read : (dialect : Dialect) (x : Option Instance) (o : Operand) → instance_named x ≡ Some o → IsRead dialect o
+instance_read dialect None o e = absurd cc
+instance_read dialect (Some x) o e = subst (IsRead dialect) (some_is (operands.Instance x.name) o e) tt
 
-field_read : (x : Option Instance) (n : ℕ) (o : Operand) → field_named x n ≡ Some o → IsRead o
-field_read None n o e = absurd cc
-field_read (Some x) n o e =
+field_read : (dialect : Dialect) (x : Option Instance) (n : ℕ) (o : Operand) → field_named x n ≡ Some o → IsRead dialect o
+field_read dialect None n o e = absurd cc
+field_read dialect (Some x) n o e =
     let m = map_is (slice_get (kind_fields x.kind) n) (λ (f : Field). operands.Field x.name (field_name f)) o e in
-    subst IsRead m.2 tt
+    subst (IsRead dialect) m.2 tt
 
-literal_read : (v : Option Value) (o : Operand) → ((w : Value) → v ≡ Some w → IsValue w) → option_map operands.Literal v ≡ Some o → IsRead o
-literal_read v o all e =
+literal_read : (dialect : Dialect) (v : Option Value) (o : Operand) → ((w : Value) → v ≡ Some w → IsSayable dialect w) → option_map operands.Literal v ≡ Some o → IsRead dialect o
+literal_read dialect v o all e =
     let m = map_is v operands.Literal o e in
-    subst IsRead m.2 (all m.0 m.1)
+    subst (IsRead dialect) m.2 (all m.0 m.1)
 
-named_read : (ds : Declarations) (constants : List Value) (x : CodedOperand) (o : Operand) → AllByRecursion IsValue constants → HasOwnCode x → named_operand ds constants x ≡ Some o → IsRead o
-named_read ds constants (coded.Location loc) o all own e = subst IsRead (some_is (operands.Direct loc) o e) own
-named_read ds constants (coded.Variable i) o all own e = variable_read (slice_get ds.variables i) o e
-named_read ds constants (coded.Field i n) o all own e = field_read (slice_get ds.instances i) n o e
-named_read ds constants (coded.Constant k) o all own e = literal_read (slice_get constants k) o (λ w there. all_there IsValue constants k w there all) e
-named_read ds constants coded.Unused o all own e = subst IsRead (some_is operands.Absent o e) tt
+named_read : (dialect : Dialect) (ds : Declarations) (constants : List Value) (x : CodedOperand) (o : Operand) → AllByRecursion (IsSayable dialect) constants → HasOwnCode x → named_operand ds constants x ≡ Some o → IsRead dialect o
+named_read dialect ds constants (coded.Location loc) o all own e = subst (IsRead dialect) (some_is (operands.Direct loc) o e) own
+named_read dialect ds constants (coded.Variable i) o all own e = variable_read dialect (slice_get ds.variables i) o e
+named_read dialect ds constants (coded.Field i n) o all own e = field_read dialect (slice_get ds.instances i) n o e
+named_read dialect ds constants (coded.Constant k) o all own e = literal_read dialect (slice_get constants k) o (λ w there. all_there (IsSayable dialect) constants k w there all) e
+named_read dialect ds constants coded.Unused o all own e = subst (IsRead dialect) (some_is operands.Absent o e) tt
 
-value_read : (ds : Declarations) (constants : List Value) (n : ℕ) (o : Operand) → AllByRecursion IsValue constants → value_operand ds constants n ≡ Some o → IsRead o
-value_read ds constants n o all e = by_code (with_code n) refl e
+value_read : (dialect : Dialect) (ds : Declarations) (constants : List Value) (n : ℕ) (o : Operand) → AllByRecursion (IsSayable dialect) constants → value_operand ds constants n ≡ Some o → IsRead dialect o
+value_read dialect ds constants n o all e = by_code (with_code n) refl e
   where
-    by_code : (x : Option CodedOperand) → with_code n ≡ x → option_and_then (named_operand ds constants) x ≡ Some o → IsRead o
+    by_code : (x : Option CodedOperand) → with_code n ≡ x → option_and_then (named_operand ds constants) x ≡ Some o → IsRead dialect o
     by_code None f h = absurd cc
-    by_code (Some x) f h = named_read ds constants x o all (coded_back n x f).own h
+    by_code (Some x) f h = named_read dialect ds constants x o all (coded_back n x f).own h
 
-word_read : (ds : Declarations) (marks : List Mark) (constants : List Value) (op : Op) (n : ℕ) (o : Operand) → AllByRecursion IsValue constants → numbered_operand ds marks constants op n ≡ Some o → IsRead o
-word_read ds marks constants op n o all e = by_tests (is_jump op) (is_call op) e
+word_read : (dialect : Dialect) (ds : Declarations) (marks : List Mark) (constants : List Value) (op : Op) (n : ℕ) (o : Operand) → AllByRecursion (IsSayable dialect) constants → numbered_operand ds marks constants op n ≡ Some o → IsRead dialect o
+word_read dialect ds marks constants op n o all e = by_tests (is_jump op) (is_call op) e
   where
-    by_tests : (p q : Bool) → cond p (Some (operands.Label (target_name (label_there marks n)))) (cond q (instance_named (slice_get ds.instances n)) (value_operand ds constants n)) ≡ Some o → IsRead o
-    by_tests true q h = subst IsRead (some_is (operands.Label (target_name (label_there marks n))) o h) tt
-    by_tests false true h = instance_read (slice_get ds.instances n) o h
-    by_tests false false h = value_read ds constants n o all h
+    by_tests : (p q : Bool) → cond p (Some (operands.Label (target_name (label_there marks n)))) (cond q (instance_named (slice_get ds.instances n)) (value_operand ds constants n)) ≡ Some o → IsRead dialect o
+    by_tests true q h = subst (IsRead dialect) (some_is (operands.Label (target_name (label_there marks n))) o h) tt
+    by_tests false true h = instance_read dialect (slice_get ds.instances n) o h
+    by_tests false false h = value_read dialect ds constants n o all h
 
 -- ---- names that are declared
 
@@ -271,70 +275,71 @@ stands_for Q (operands.Instance name) src has e =
     let m = map_is (instance_in Q.instances name) sources.Instance src e in
     (found_free (λ (y : Instance). y.name) Q.instances name m.0 m.1 has.instances, found_some (instance_in Q.instances name) m.0 m.1)
 
-value_listed : (ds : Declarations) (o : Operand) → has_form forms.Value false o ≡ true → IsNamed ds o → IsRead o → IsValueOperand ds o
-value_listed ds operands.Absent form named read = absurd cc
-value_listed ds (operands.Literal v) form named read = read
-value_listed ds (operands.Bare z) form named read = named
-value_listed ds (operands.Variable name) form named read = named
-value_listed ds (operands.Direct loc) form named read = read
-value_listed ds (operands.Label name) form named read = absurd cc
-value_listed ds (operands.Field name field) form named read = named
-value_listed ds (operands.Instance name) form named read = absurd cc
+value_listed : (dialect : Dialect) (ds : Declarations) (o : Operand) → has_form forms.Value false o ≡ true → IsNamed ds o → IsRead dialect o → IsValueOperand dialect ds o
+value_listed dialect ds operands.Absent form named read = absurd cc
+value_listed dialect ds (operands.Literal v) form named read = read
+value_listed dialect ds (operands.Bare z) form named read = named
+value_listed dialect ds (operands.Variable name) form named read = named
+value_listed dialect ds (operands.Direct loc) form named read = read
+value_listed dialect ds (operands.Label name) form named read = absurd cc
+value_listed dialect ds (operands.Field name field) form named read = named
+value_listed dialect ds (operands.Instance name) form named read = absurd cc
 
-operand_listed : (ds : Declarations) (o : Operand) → IsNamed ds o → IsRead o → IsListedOperand ds o
-operand_listed ds operands.Absent named read = tt
-operand_listed ds (operands.Literal v) named read = read
-operand_listed ds (operands.Bare z) named read = named
-operand_listed ds (operands.Variable name) named read = named
-operand_listed ds (operands.Direct loc) named read = read
-operand_listed ds (operands.Label name) named read = named
-operand_listed ds (operands.Field name field) named read = named
-operand_listed ds (operands.Instance name) named read = named
+operand_listed : (dialect : Dialect) (ds : Declarations) (o : Operand) → IsNamed ds o → IsRead dialect o → IsListedOperand dialect ds o
+operand_listed dialect ds operands.Absent named read = tt
+operand_listed dialect ds (operands.Literal v) named read = read
+operand_listed dialect ds (operands.Bare z) named read = named
+operand_listed dialect ds (operands.Variable name) named read = named
+operand_listed dialect ds (operands.Direct loc) named read = read
+operand_listed dialect ds (operands.Label name) named read = named
+operand_listed dialect ds (operands.Field name field) named read = named
+operand_listed dialect ds (operands.Instance name) named read = named
 
 -- ---- arguments
 
-passed_listed : (Q : Program) (kind : Option BlockKind) (k : BlockKind) (a : Argument) → HasNames Q → AllByRecursion IsValue (constants_of Q) → IsPassing Q kind a → IsArgumentOf Q k a → IsListedArgument (declared_by Q) a
-passed_listed Q kind k a has values is typed =
+passed_listed : (dialect : Dialect) (Q : Program) (kind : Option BlockKind) (k : BlockKind) (a : Argument) → HasNames Q → AllByRecursion (IsSayable dialect) (constants_of Q) → IsPassing Q kind a → IsArgumentOf Q k a → IsListedArgument dialect (declared_by Q) a
+passed_listed dialect Q kind k a has values is typed =
     let t = tested_is (has_form forms.Value false) (value_operand (declared_by Q) (constants_of Q) (operand_code Q (constants_of Q) a.operand)) a.operand is.operand_read in
-    let read = value_read (declared_by Q) (constants_of Q) (operand_code Q (constants_of Q) a.operand) a.operand values t.0 in
+    let read = value_read dialect (declared_by Q) (constants_of Q) (operand_code Q (constants_of Q) a.operand) a.operand values t.0 in
     let f = field_so k a.field typed.number typed.numbered in
     record {
       field = subst IsFieldName f.named (field_is f.field);
-      operand = value_listed (declared_by Q) a.operand t.1 (stands_for Q a.operand typed.source has typed.sourced) read;
+      operand = value_listed dialect (declared_by Q) a.operand t.1 (stands_for Q a.operand typed.source has typed.sourced) read;
     }
 
-all_passed : (Q : Program) (kind : Option BlockKind) (k : BlockKind) (args : List Argument) → HasNames Q → AllByRecursion IsValue (constants_of Q) → AllByRecursion (IsPassing Q kind) args → AllByRecursion (IsArgumentOf Q k) args
-    → AllByRecursion (IsListedArgument (declared_by Q)) args
-all_passed Q kind k [] has values is typed = tt
-all_passed Q kind k (a ∷ args) has values is typed = (passed_listed Q kind k a has values is.0 typed.0, all_passed Q kind k args has values is.1 typed.1)
+all_passed : (dialect : Dialect) (Q : Program) (kind : Option BlockKind) (k : BlockKind) (args : List Argument) → HasNames Q → AllByRecursion (IsSayable dialect) (constants_of Q) → AllByRecursion (IsPassing Q kind) args → AllByRecursion (IsArgumentOf Q k) args
+    → AllByRecursion (IsListedArgument dialect (declared_by Q)) args
+all_passed dialect Q kind k [] has values is typed = tt
+all_passed dialect Q kind k (a ∷ args) has values is typed = (passed_listed dialect Q kind k a has values is.0 typed.0, all_passed dialect Q kind k args has values is.1 typed.1)
 
-arguments_listed : (Q : Program) (kind own : Option BlockKind) (args : List Argument) → HasNames Q → AllByRecursion IsValue (constants_of Q) → AllByRecursion (IsPassing Q own) args → arguments_fault Q kind [] args ≡ None
-    → AllByRecursion (IsListedArgument (declared_by Q)) args
-arguments_listed Q None own args has values is e = subst (λ (xs : List Argument). AllByRecursion (IsListedArgument (declared_by Q)) xs) (sym (no_arguments Q [] args e)) tt
-arguments_listed Q (Some k) own args has values is e = all_passed Q own k args has values is (arguments_typed Q k [] args e)
+arguments_listed : (dialect : Dialect) (Q : Program) (kind own : Option BlockKind) (args : List Argument) → HasNames Q → AllByRecursion (IsSayable dialect) (constants_of Q) → AllByRecursion (IsPassing Q own) args → arguments_fault Q kind [] args ≡ None
+    → AllByRecursion (IsListedArgument dialect (declared_by Q)) args
+arguments_listed dialect Q None own args has values is e = subst (λ (xs : List Argument). AllByRecursion (IsListedArgument dialect (declared_by Q)) xs) (sym (no_arguments Q [] args e)) tt
+arguments_listed dialect Q (Some k) own args has values is e = all_passed dialect Q own k args has values is (arguments_typed Q k [] args e)
 
 -- ---- lines
 
-line_listed : (Q : Program) (line : Instr) → HasNames Q → AllByRecursion IsValue (constants_of Q) → IsListedLabel line.label → IsWord Q line → IsTypedLine Q line → IsListedLine (declared_by Q) line
-line_listed Q line has values label is typed =
+line_listed : (dialect : Dialect) (Q : Program) (line : Instr) → HasNames Q → AllByRecursion (IsSayable dialect) (constants_of Q) → IsListedLabel line.label → may_write (newest dialect) line ≡ true → IsWord Q line → IsTypedLine Q line → IsListedLine dialect (declared_by Q) line
+line_listed dialect Q line has values label known is typed =
     let code = operand_code Q (constants_of Q) line.operand in
     let marks = marks_from 0 Q.code in
     let t = tested_is (formed_by (usage_of line.op) line.modifier) (numbered_operand (declared_by Q) marks (constants_of Q) line.op code) line.operand is.coded.operand_read in
     let l = tested_is (allowed_by (usage_of line.op)) (modifier_of (modifier_code line.modifier)) line.modifier is.coded.letters in
     record {
       label = label;
+      known = known;
       letters = l.1;
       form = t.1;
-      operand = operand_listed (declared_by Q) line.operand (stands_for Q line.operand typed.source has typed.sourced) (word_read (declared_by Q) marks (constants_of Q) line.op code line.operand values t.0);
-      arguments = arguments_listed Q (called_kind Q line.operand) (called_kind Q line.operand) line.arguments has values is.arguments typed.arguments;
+      operand = operand_listed dialect (declared_by Q) line.operand (stands_for Q line.operand typed.source has typed.sourced) (word_read dialect (declared_by Q) marks (constants_of Q) line.op code line.operand values t.0);
+      arguments = arguments_listed dialect Q (called_kind Q line.operand) (called_kind Q line.operand) line.arguments has values is.arguments typed.arguments;
       called = is.called;
       labelled = is.labelled;
     }
 
-all_lines : (Q : Program) (code : List Instr) → HasNames Q → AllByRecursion IsValue (constants_of Q) → AllByRecursion (λ (line : Instr). IsListedLabel line.label) code → AllByRecursion (IsWord Q) code → AllByRecursion (IsTypedLine Q) code
-    → AllByRecursion (IsListedLine (declared_by Q)) code
-all_lines Q [] has values labels words typed = tt
-all_lines Q (line ∷ code) has values labels words typed = (line_listed Q line has values labels.0 words.0 typed.0, all_lines Q code has values labels.1 words.1 typed.1)
+all_lines : (dialect : Dialect) (Q : Program) (code : List Instr) → HasNames Q → AllByRecursion (IsSayable dialect) (constants_of Q) → AllByRecursion (λ (line : Instr). IsListedLabel line.label) code → AllByRecursion (λ (line : Instr). may_write (newest dialect) line ≡ true) code
+    → AllByRecursion (IsWord Q) code → AllByRecursion (IsTypedLine Q) code → AllByRecursion (IsListedLine dialect (declared_by Q)) code
+all_lines dialect Q [] has values labels known words typed = tt
+all_lines dialect Q (line ∷ code) has values labels known words typed = (line_listed dialect Q line has values labels.0 known.0 words.0 typed.0, all_lines dialect Q code has values labels.1 known.1 words.1 typed.1)
 
 -- ---- values
 
@@ -370,6 +375,9 @@ of_type types.Time z v e =
 of_type types.Lint z v e =
     let m = if_some (is_within (2 ^ 63) z) (values.Lint z) v e in
     subst (IsOfType types.Lint) m.1 (record { is = refl; made_again = rw m.0 refl })
+of_type types.Real z v e =
+    let m = real_is z v e in
+    subst (IsOfType types.Real) m.1 (record { is = refl; made_again = real_again m.0 })
 
 constant_value : (seen : List Value) (v : Value) → IsConstant seen v → IsValue v
 constant_value seen v is =
@@ -378,13 +386,22 @@ constant_value seen v is =
 
 -- ---- the whole
 
-pub record IsListable (Q : Program) : Type 0 where
+pub record IsListable (dialect : Dialect) (Q : Program) : Type 0 where
   pub names : HasNames Q
-  pub lines : AllByRecursion (IsListedLine (declared_by Q)) Q.code
+  pub lines : AllByRecursion (IsListedLine dialect (declared_by Q)) Q.code
 
-pub listable : (Q : Program) → IsImage Q → IsListable Q
-listable Q is =
-    let has = names_of Q is.text in
-    let all = items_all IsConstant IsValue constant_value [] (constants_of Q) is.text.constants in
-    let words = items_all (λ seen. IsWord Q) (IsWord Q) (λ seen line w. w) [] Q.code is.text.words in
-    record { names = has; lines = all_lines Q Q.code has all has.labels words (typed_lines Q (faultless Q is.typed)) }
+-- values that have two properties have what follows from both
+pub all_of_both : {A : Type 0} (F G H : A → Type 0) → ((x : A) → F x → G x → H x) → (xs : List A) → AllByRecursion F xs → AllByRecursion G xs → AllByRecursion H xs
+all_of_both F G H both [] fs gs = tt
+all_of_both F G H both (x ∷ xs) fs gs = (both x fs.0 gs.0, all_of_both F G H both xs fs.1 gs.1)
+
+constants_said : (dialect : Dialect) (Q : Program) → IsSayableProgram dialect Q → AllByRecursion (IsSayable dialect) (constants_of Q)
+constants_said dialect Q is =
+    all_of_both IsValue (λ (v : Value). may_keep (newest dialect) v ≡ true) (IsSayable dialect) (λ v value known. record { value = value; known = known }) (constants_of Q)
+    (items_all IsConstant IsValue constant_value [] (constants_of Q) is.image.text.constants) is.constants
+
+pub listable : (dialect : Dialect) (Q : Program) → IsSayableProgram dialect Q → IsListable dialect Q
+listable dialect Q is =
+    let has = names_of Q is.image.text in
+    let words = items_all (λ seen. IsWord Q) (IsWord Q) (λ seen line w. w) [] Q.code is.image.text.words in
+    record { names = has; lines = all_lines dialect Q Q.code has (constants_said dialect Q is) has.labels is.code words (typed_lines Q (faultless Q is.image.typed)) }

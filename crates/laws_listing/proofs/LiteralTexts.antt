@@ -6,6 +6,8 @@ use Rattle.std.specs.Option.{option_and_then}
 use Rattle.std.proofs.lemmas.Bool.{lt-ltb, le-ltb, leb-true, ne_eqb}
 use Rattle.std.proofs.lemmas.List.{append-nil}
 use Rattle.std.proofs.Math.Seq.{take-append_seam, drop-append_seam}
+use Rattle.il_model.specs.declared.dialect.Dialect.{Dialect}
+use Rattle.il_model.specs.declared.dialect.Dialect.TheVariants as dialects
 use Rattle.il_model.specs.declared.value.Ty.TheVariants as types
 use Rattle.il_model.specs.declared.value.Value.{Value}
 use Rattle.il_model.specs.declared.value.Value.TheVariants as values
@@ -13,10 +15,16 @@ use Rattle.il_model.specs.declared.literal.Literal.TheVariants.{Typed}
 use Rattle.il_model.specs.Words.{spells}
 use Rattle.il_model.specs.Literals.{integer_of, is_digit_byte, digits_len, behind_number, part_by, sum_of_parts}
 use Rattle.il_model.specs.Literals.{parts_by, duration_by, is_no_hash, hash_at, positive, minus, signed_by, whole_by}
-use Rattle.il_model.specs.Literals.{time_by, typed_literal, literal_of}
+use Rattle.il_model.specs.Literals.{time_by, typed_literal, literal_of, typed_real, extended_literal_of}
+use Rattle.il_model.specs.Image.{may_keep}
+use Rattle.il_model.specs.Dialects.{literal_in}
+use Rattle.il_real.specs.Literals.{real_literal}
+use Rattle.il_real.specs.Texts.{real_text}
+use Rattle.il_real.proofs.Texts.{reads_back}
 use Rattle.il_model.proofs.LiteralLaws.{IsValue}
 use Rattle.il_lister.specs.Listing.{decimal, number_text, literal_text}
 use Rattle.laws_listing.proofs.Fronts.{both_true, prefix_whole, all_weaker}
+use Rattle.laws_listing.proofs.Sayable.{newest, IsSayable}
 use Rattle.laws_listing.proofs.Numerals.{is_digit, IsNumeral, numeral}
 
 digit_between : (b : ℕ) → is_digit b ≡ true → (48 ≤ b) × (b ≤ 57)
@@ -108,11 +116,54 @@ behind_time : (t : List ℕ) → literal_of (codes "T#" ++ t) ≡ typed_literal 
 unfolding literal_of spells
 behind_time t = let e : ltb 1 (length (codes "T#" ++ t)) ≡ true = lt-ltb 1 (length (codes "T#" ++ t)) (omega arith) in rw e refl
 
-pub literal_again : (v : Value) → IsValue v → literal_of (literal_text v) ≡ Some (Typed v)
+literal_plain : (v : Value) → IsSayable dialects.Plain v → literal_of (literal_text v) ≡ Some (Typed v)
 unfolding literal_of spells
-literal_again (values.Bool true) is = refl
-literal_again (values.Bool false) is = refl
-literal_again (values.Int z) is = behind_int (number_text z) ∙ ap (typed_literal types.Int) (whole_number z) ∙ ap (option_map Typed) is
-literal_again (values.Dint z) is = behind_dint (number_text z) ∙ ap (typed_literal types.Dint) (whole_number z) ∙ ap (option_map Typed) is
-literal_again (values.Lint z) is = behind_lint (number_text z) ∙ ap (typed_literal types.Lint) (whole_number z) ∙ ap (option_map Typed) is
-literal_again (values.Time z) is = behind_time (number_text z ++ ms) ∙ ap (typed_literal types.Time) (time_number z) ∙ ap (option_map Typed) is
+literal_plain (values.Bool true) is = refl
+literal_plain (values.Bool false) is = refl
+literal_plain (values.Int z) is = behind_int (number_text z) ∙ ap (typed_literal types.Int) (whole_number z) ∙ ap (option_map Typed) is.value
+literal_plain (values.Dint z) is = behind_dint (number_text z) ∙ ap (typed_literal types.Dint) (whole_number z) ∙ ap (option_map Typed) is.value
+literal_plain (values.Lint z) is = behind_lint (number_text z) ∙ ap (typed_literal types.Lint) (whole_number z) ∙ ap (option_map Typed) is.value
+literal_plain (values.Time z) is = behind_time (number_text z ++ ms) ∙ ap (typed_literal types.Time) (time_number z) ∙ ap (option_map Typed) is.value
+literal_plain (values.Real r) is = let known = is.known in absurd cc
+
+-- ---- literals of extended texts
+
+-- a literal of a type of plain texts is the same
+extended_int : (t : List ℕ) → extended_literal_of (codes "INT#" ++ t) ≡ literal_of (codes "INT#" ++ t)
+unfolding spells
+extended_int t = let e : ltb 3 (length (codes "INT#" ++ t)) ≡ true = lt-ltb 3 (length (codes "INT#" ++ t)) (omega arith) in rw e refl
+
+extended_dint : (t : List ℕ) → extended_literal_of (codes "DINT#" ++ t) ≡ literal_of (codes "DINT#" ++ t)
+unfolding spells
+extended_dint t = let e : ltb 4 (length (codes "DINT#" ++ t)) ≡ true = lt-ltb 4 (length (codes "DINT#" ++ t)) (omega arith) in rw e refl
+
+extended_lint : (t : List ℕ) → extended_literal_of (codes "LINT#" ++ t) ≡ literal_of (codes "LINT#" ++ t)
+unfolding spells
+extended_lint t = let e : ltb 4 (length (codes "LINT#" ++ t)) ≡ true = lt-ltb 4 (length (codes "LINT#" ++ t)) (omega arith) in rw e refl
+
+extended_time : (t : List ℕ) → extended_literal_of (codes "T#" ++ t) ≡ literal_of (codes "T#" ++ t)
+unfolding spells
+extended_time t = let e : ltb 1 (length (codes "T#" ++ t)) ≡ true = lt-ltb 1 (length (codes "T#" ++ t)) (omega arith) in rw e refl
+
+behind_real : (t : List ℕ) → extended_literal_of (codes "REAL#" ++ t) ≡ typed_real (real_literal t)
+unfolding spells
+behind_real t = let e : ltb 4 (length (codes "REAL#" ++ t)) ≡ true = lt-ltb 4 (length (codes "REAL#" ++ t)) (omega arith) in rw e refl
+
+-- what plain texts can say
+said_plainly : (v : Value) → IsValue v → may_keep (newest dialects.Plain) v ≡ true → literal_of (literal_text v) ≡ Some (Typed v)
+said_plainly v value known = literal_plain v (record { value = value; known = known })
+
+literal_extended : (v : Value) → IsValue v → extended_literal_of (literal_text v) ≡ Some (Typed v)
+literal_extended (values.Bool true) is = said_plainly (values.Bool true) is refl
+literal_extended (values.Bool false) is = said_plainly (values.Bool false) is refl
+literal_extended (values.Int z) is = extended_int (number_text z) ∙ said_plainly (values.Int z) is refl
+literal_extended (values.Dint z) is = extended_dint (number_text z) ∙ said_plainly (values.Dint z) is refl
+literal_extended (values.Lint z) is = extended_lint (number_text z) ∙ said_plainly (values.Lint z) is refl
+literal_extended (values.Time z) is = extended_time (number_text z ++ ms) ∙ said_plainly (values.Time z) is refl
+literal_extended (values.Real r) is = behind_real (real_text r) ∙ ap typed_real (reads_back r)
+
+-- ---- the whole
+
+pub literal_again : (dialect : Dialect) (v : Value) → IsSayable dialect v → literal_in dialect (literal_text v) ≡ Some (Typed v)
+literal_again dialects.Plain v is = literal_plain v is
+literal_again dialects.Extended v is = literal_extended v is.value

@@ -166,3 +166,4 @@ type_is types.Int = name_by _ refl
 type_is types.Dint = name_by _ refl
 type_is types.Time = name_by _ refl
 type_is types.Lint = name_by _ refl
+type_is types.Real = name_by _ refl

@@ -2,6 +2,8 @@
 use Rattle.std.proofs.Common.{◌≡◌, ℕ, Bool, true, false, List, [], ◌∷◌, ◌++◌, length, Option, Some, None, refl, sym, ap, ◌∙◌, subst, ◌&&◌, ◌||◌, not, append_assoc}
 use Rattle.std.specs.Prelude.{codes, is_none}
 use Rattle.std.specs.List.{AllByRecursion}
+use Rattle.il_model.specs.declared.dialect.Dialect.{Dialect}
+use Rattle.il_model.specs.declared.dialect.Dialect.TheVariants as dialects
 use Rattle.il_model.specs.declared.op.Op.{Op}
 use Rattle.il_model.specs.declared.op.Op.TheVariants as ops
 use Rattle.il_model.specs.declared.op.Modifier.{Modifier}
@@ -12,14 +14,16 @@ use Rattle.il_model.specs.declared.program.Instr.{Instr}
 use Rattle.il_model.specs.declared.codes.OperandForm.TheVariants as usages
 use Rattle.il_model.specs.declared.codes.LetterSet.TheVariants as sets
 use Rattle.il_model.specs.Program.{Declarations}
-use Rattle.il_model.specs.Words.{spells, look, mnemonic_of}
+use Rattle.il_model.specs.Words.{spells, look, mnemonic_of, extended_mnemonic_of}
+use Rattle.il_model.specs.Functions.{look_function, function_named}
+use Rattle.il_model.specs.Dialects.{operator_in}
 use Rattle.il_model.specs.Codes.{usage_of, allows, has_form, allowed_by, formed_by, is_empty}
 use Rattle.il_reader.specs.declared.operations.Form.TheVariants as forms
 use Rattle.il_reader.specs.declared.contents.Operator.{Operator}
 use Rattle.il_reader.specs.declared.lexeme.Sign.TheVariants as signs
 use Rattle.il_reader.specs.Tokens.{Token, is_word_end, tokens_behind, piece_of, tokens_of}
 use Rattle.il_reader.specs.Front.{is_sign, is_end, is_word_token, next_is}
-use Rattle.il_reader.specs.Grammar.{no_dot, no_open, is_line_stop, form_of, operator_of, is_label, is_no_label, BehindText}
+use Rattle.il_reader.specs.Grammar.{no_dot, no_open, is_line_stop, form_of, operator_of, is_label, is_no_label, block_word, BehindText}
 use Rattle.il_reader.specs.Spelling.{ahead, Spell, accepts, operator_before, spelled_operand, spelled_behind, spelled_operation}
 use Rattle.il_lister.specs.Listing.{letter, operand_text, behind_text, arguments_text, operation_text}
 use Rattle.laws_listing.proofs.Fronts.{both_true, not_true}
@@ -115,6 +119,8 @@ takes ops.Xor m o args rest a f = either_takes m.opens o args rest f
 takes ops.Not m o args rest a f = nothing_takes m.opens o args rest (none_closed m a) f
 takes ops.Add m o args rest a f = either_takes m.opens o args rest f
 takes ops.Sub m o args rest a f = either_takes m.opens o args rest f
+takes ops.Min m o args rest a f = either_takes m.opens o args rest f
+takes ops.Max m o args rest a f = either_takes m.opens o args rest f
 takes ops.Mul m o args rest a f = either_takes m.opens o args rest f
 takes ops.Div m o args rest a f = either_takes m.opens o args rest f
 takes ops.Mod m o args rest a f = either_takes m.opens o args rest f
@@ -132,6 +138,7 @@ takes ops.IntToDint m o args rest a f = nothing_takes m.opens o args rest (none_
 takes ops.DintToInt m o args rest a f = nothing_takes m.opens o args rest (none_closed m a) f
 takes ops.DintToLint m o args rest a f = nothing_takes m.opens o args rest (none_closed m a) f
 takes ops.LintToDint m o args rest a f = nothing_takes m.opens o args rest (none_closed m a) f
+takes (ops.Apply g) m o args rest a f = nothing_takes m.opens o args rest (none_closed m a) f
 
 -- ---- behind an operator, before a line end
 
@@ -139,125 +146,125 @@ takes ops.LintToDint m o args rest a f = nothing_takes m.opens o args rest (none
 abbrev pub behind_at : Bool → Operand → List Argument → List ℕ → List ℕ
 behind_at b o args rest = letter b (codes "(") ++ (behind_text o ++ (arguments_text args ++ rest))
 
-record IsSpelledBehind (b : Bool) (o : Operand) (args : List Argument) (rest : List ℕ) : Type 0 where
-  spelled : Spell (spelled_behind (written_behind b o args rest)) (tokens_of (behind_at b o args rest)) (tokens_of rest)
-  no_colon : next_is signs.Colon (tokens_of (behind_at b o args rest)) ≡ false
+record IsSpelledBehind (dialect : Dialect) (b : Bool) (o : Operand) (args : List Argument) (rest : List ℕ) : Type 0 where
+  spelled : Spell (spelled_behind (written_behind b o args rest)) (tokens_of dialect (behind_at b o args rest)) (tokens_of dialect rest)
+  no_colon : next_is signs.Colon (tokens_of dialect (behind_at b o args rest)) ≡ false
   ends : is_word_end (behind_at b o args rest) ≡ true
 
 abbrev line_end : List ℕ → List ℕ
 line_end rest = 10 ∷ rest
 
 -- the tokens before a line end
-pub stops : (rest : List ℕ) → is_line_stop (tokens_of (line_end rest)) ≡ true
+pub stops : (dialect : Dialect) (rest : List ℕ) → is_line_stop (tokens_of dialect (line_end rest)) ≡ true
 unfolding tokens_behind piece_of
-stops rest = refl
+stops dialect rest = refl
 
-closes_word : (rest : List ℕ) → no_dot (tokens_of (line_end rest)) ≡ true
+closes_word : (dialect : Dialect) (rest : List ℕ) → no_dot (tokens_of dialect (line_end rest)) ≡ true
 unfolding tokens_behind piece_of
-closes_word rest = refl
+closes_word dialect rest = refl
 
-opens_none : (rest : List ℕ) → no_open (tokens_of (line_end rest)) ≡ true
+opens_none : (dialect : Dialect) (rest : List ℕ) → no_open (tokens_of dialect (line_end rest)) ≡ true
 unfolding tokens_behind piece_of
-opens_none rest = refl
+opens_none dialect rest = refl
 
-colon_none : (rest : List ℕ) → next_is signs.Colon (tokens_of (line_end rest)) ≡ false
+colon_none : (dialect : Dialect) (rest : List ℕ) → next_is signs.Colon (tokens_of dialect (line_end rest)) ≡ false
 unfolding tokens_behind piece_of
-colon_none rest = refl
+colon_none dialect rest = refl
 
 ends_operand : (rest : List ℕ) → EndsOperand (line_end rest)
 ends_operand rest = record { word = refl; literal = refl; address = refl }
 
-absent_behind : (b : Bool) (rest : List ℕ) → IsSpelledBehind b operands.Absent [] (line_end rest)
-absent_behind true rest =
-    let e = open_token (line_end rest) refl in
+absent_behind : (dialect : Dialect) (b : Bool) (rest : List ℕ) → IsSpelledBehind dialect b operands.Absent [] (line_end rest)
+absent_behind dialect true rest =
+    let e = open_token dialect (line_end rest) refl in
     record {
-      spelled = spell_one (is_sign signs.Open) (token_at signs.Open (40 ∷ []) (line_end rest)) (ahead is_line_stop ∷ []) (tokens_of (40 ∷ line_end rest)) (tokens_of (line_end rest)) (tokens_of (line_end rest)) e refl (stops rest, refl);
+      spelled = spell_one (is_sign signs.Open) (token_at signs.Open (40 ∷ []) (line_end rest)) (ahead is_line_stop ∷ []) (tokens_of dialect (40 ∷ line_end rest)) (tokens_of dialect (line_end rest)) (tokens_of dialect (line_end rest)) e refl (stops dialect rest, refl);
       no_colon = ap (next_is signs.Colon) e;
       ends = refl;
     }
-absent_behind false rest = record { spelled = refl; no_colon = colon_none rest; ends = refl }
+absent_behind dialect false rest = record { spelled = refl; no_colon = colon_none dialect rest; ends = refl }
 
 -- a blank and an operand, in a parenthesis that is left open or not
-record IsSpelledGiven (b : Bool) (o : Operand) (rest : List ℕ) : Type 0 where
-  spelled : Spell (spelled_behind (written_value b (written_operand o rest))) (tokens_of (letter b (codes "(") ++ (32 ∷ (operand_text o ++ rest)))) (tokens_of rest)
-  no_colon : next_is signs.Colon (tokens_of (letter b (codes "(") ++ (32 ∷ (operand_text o ++ rest)))) ≡ false
+record IsSpelledGiven (dialect : Dialect) (b : Bool) (o : Operand) (rest : List ℕ) : Type 0 where
+  spelled : Spell (spelled_behind (written_value b (written_operand o rest))) (tokens_of dialect (letter b (codes "(") ++ (32 ∷ (operand_text o ++ rest)))) (tokens_of dialect rest)
+  no_colon : next_is signs.Colon (tokens_of dialect (letter b (codes "(") ++ (32 ∷ (operand_text o ++ rest)))) ≡ false
   ends : is_word_end (letter b (codes "(") ++ (32 ∷ (operand_text o ++ rest))) ≡ true
 
-given_behind : (b : Bool) (o : Operand) (rest : List ℕ) → IsSpelledValue o (line_end rest) → IsSpelledGiven b o (line_end rest)
-given_behind true o rest is =
+given_behind : (dialect : Dialect) (b : Bool) (o : Operand) (rest : List ℕ) → IsSpelledValue dialect o (line_end rest) → IsSpelledGiven dialect b o (line_end rest)
+given_behind dialect true o rest is =
     let u = operand_text o ++ line_end rest in
-    let e = open_token (32 ∷ u) refl in
-    let s = spell_same (spelled_operand (written_operand o (line_end rest))) (tokens_of (32 ∷ u)) (tokens_of u) (tokens_of (line_end rest)) (blank_skips u) (is.plain (closes_word rest)) in
+    let e = open_token dialect (32 ∷ u) refl in
+    let s = spell_same (spelled_operand (written_operand o (line_end rest))) (tokens_of dialect (32 ∷ u)) (tokens_of dialect u) (tokens_of dialect (line_end rest)) (blank_skips dialect u) (is.plain (closes_word dialect rest)) in
     record {
-      spelled = spell_one (is_sign signs.Open) (token_at signs.Open (40 ∷ []) (32 ∷ u)) (spelled_operand (written_operand o (line_end rest))) (tokens_of (40 ∷ 32 ∷ u)) (tokens_of (32 ∷ u)) (tokens_of (line_end rest)) e refl s;
+      spelled = spell_one (is_sign signs.Open) (token_at signs.Open (40 ∷ []) (32 ∷ u)) (spelled_operand (written_operand o (line_end rest))) (tokens_of dialect (40 ∷ 32 ∷ u)) (tokens_of dialect (32 ∷ u)) (tokens_of dialect (line_end rest)) e refl s;
       no_colon = ap (next_is signs.Colon) e;
       ends = refl;
     }
-given_behind false o rest is =
+given_behind dialect false o rest is =
     let u = operand_text o ++ line_end rest in
     record {
-      spelled = spell_same (spelled_operand (written_operand o (line_end rest))) (tokens_of (32 ∷ u)) (tokens_of u) (tokens_of (line_end rest)) (blank_skips u) (is.plain (closes_word rest));
-      no_colon = ap (next_is signs.Colon) (blank_skips u ∙ is.begins.is) ∙ is.no_colon;
+      spelled = spell_same (spelled_operand (written_operand o (line_end rest))) (tokens_of dialect (32 ∷ u)) (tokens_of dialect u) (tokens_of dialect (line_end rest)) (blank_skips dialect u) (is.plain (closes_word dialect rest));
+      no_colon = ap (next_is signs.Colon) (blank_skips dialect u ∙ is.begins.is) ∙ is.no_colon;
       ends = refl;
     }
 
-label_behind : (w rest : List ℕ) → IsFreeName w → IsSpelledBehind false (operands.Label w) [] (line_end rest)
-label_behind w rest is =
+label_behind : (dialect : Dialect) (w rest : List ℕ) → IsFreeName w → IsSpelledBehind dialect false (operands.Label w) [] (line_end rest)
+label_behind dialect w rest is =
     let u = w ++ line_end rest in
-    let e = blank_skips u ∙ name_token w (line_end rest) is.name refl in
+    let e = blank_skips dialect u ∙ name_token dialect w (line_end rest) is.name refl in
     record {
-      spelled = spell_this (is_sign signs.Name) (token_at signs.Name w (line_end rest)) [] (tokens_of (32 ∷ u)) (tokens_of (line_end rest)) (tokens_of (line_end rest)) e refl refl;
+      spelled = spell_this (is_sign signs.Name) (token_at signs.Name w (line_end rest)) [] (tokens_of dialect (32 ∷ u)) (tokens_of dialect (line_end rest)) (tokens_of dialect (line_end rest)) e refl refl;
       no_colon = ap (next_is signs.Colon) e;
       ends = refl;
     }
 
-instance_behind : (ds : Declarations) (w : List ℕ) (args : List Argument) (rest : List ℕ) → IsFreeName w → AllByRecursion (IsListedArgument ds) args → IsSpelledBehind false (operands.Instance w) args (line_end rest)
-instance_behind ds w args rest is all =
+instance_behind : (dialect : Dialect) (ds : Declarations) (w : List ℕ) (args : List Argument) (rest : List ℕ) → IsFreeName w → AllByRecursion (IsListedArgument dialect ds) args → IsSpelledBehind dialect false (operands.Instance w) args (line_end rest)
+instance_behind dialect ds w args rest is all =
     let u = w ++ (arguments_text args ++ line_end rest) in
-    let e = blank_skips u ∙ name_token w (arguments_text args ++ line_end rest) is.name (arguments_end args (line_end rest) refl) in
+    let e = blank_skips dialect u ∙ name_token dialect w (arguments_text args ++ line_end rest) is.name (arguments_end args (line_end rest) refl) in
     record {
-      spelled = spell_same (spelled_behind (written_behind false (operands.Instance w) args (line_end rest))) (tokens_of (32 ∷ u)) (tokens_of u) (tokens_of (line_end rest)) (blank_skips u) (call_spelled ds w args (line_end rest) is all (opens_none rest) refl);
+      spelled = spell_same (spelled_behind (written_behind false (operands.Instance w) args (line_end rest))) (tokens_of dialect (32 ∷ u)) (tokens_of dialect u) (tokens_of dialect (line_end rest)) (blank_skips dialect u) (call_spelled dialect ds w args (line_end rest) is all (opens_none dialect rest) refl);
       no_colon = ap (next_is signs.Colon) e;
       ends = refl;
     }
 
 -- no arguments
-bare_behind : (b : Bool) (o : Operand) (args : List Argument) (rest : List ℕ) → args ≡ [] → IsSpelledBehind b o [] rest → IsSpelledBehind b o args rest
-bare_behind b o args rest e is = subst (λ (xs : List Argument). IsSpelledBehind b o xs rest) (sym e) is
+bare_behind : (dialect : Dialect) (b : Bool) (o : Operand) (args : List Argument) (rest : List ℕ) → args ≡ [] → IsSpelledBehind dialect b o [] rest → IsSpelledBehind dialect b o args rest
+bare_behind dialect b o args rest e is = subst (λ (xs : List Argument). IsSpelledBehind dialect b o xs rest) (sym e) is
 
-behind_spelled : (ds : Declarations) (op : Op) (m : Modifier) (o : Operand) (args : List Argument) (rest : List ℕ) → IsListedOperand ds o → (is_instance o ≡ false → args ≡ []) → AllByRecursion (IsListedArgument ds) args
-    → formed_by (usage_of op) m o ≡ true → allowed_by (usage_of op) m ≡ true → IsSpelledBehind m.opens o args (line_end rest)
-behind_spelled ds op m operands.Absent args rest is lone all f a = bare_behind m.opens operands.Absent args (line_end rest) (lone refl) (absent_behind m.opens rest)
-behind_spelled ds op m (operands.Literal v) args rest is lone all f a =
-    let g = given_behind m.opens (operands.Literal v) rest (value_spelled ds (operands.Literal v) (line_end rest) is (ends_operand rest)) in
-    bare_behind m.opens (operands.Literal v) args (line_end rest) (lone refl) (record { spelled = g.spelled; no_colon = g.no_colon; ends = g.ends })
-behind_spelled ds op m (operands.Bare z) args rest is lone all f a = absurd is
-behind_spelled ds op m (operands.Variable w) args rest is lone all f a =
-    let g = given_behind m.opens (operands.Variable w) rest (value_spelled ds (operands.Variable w) (line_end rest) is (ends_operand rest)) in
-    bare_behind m.opens (operands.Variable w) args (line_end rest) (lone refl) (record { spelled = g.spelled; no_colon = g.no_colon; ends = g.ends })
-behind_spelled ds op m (operands.Direct loc) args rest is lone all f a =
-    let g = given_behind m.opens (operands.Direct loc) rest (value_spelled ds (operands.Direct loc) (line_end rest) is (ends_operand rest)) in
-    bare_behind m.opens (operands.Direct loc) args (line_end rest) (lone refl) (record { spelled = g.spelled; no_colon = g.no_colon; ends = g.ends })
-behind_spelled ds op m (operands.Label w) args rest is lone all f a =
+behind_spelled : (dialect : Dialect) (ds : Declarations) (op : Op) (m : Modifier) (o : Operand) (args : List Argument) (rest : List ℕ) → IsListedOperand dialect ds o → (is_instance o ≡ false → args ≡ []) → AllByRecursion (IsListedArgument dialect ds) args
+    → formed_by (usage_of op) m o ≡ true → allowed_by (usage_of op) m ≡ true → IsSpelledBehind dialect m.opens o args (line_end rest)
+behind_spelled dialect ds op m operands.Absent args rest is lone all f a = bare_behind dialect m.opens operands.Absent args (line_end rest) (lone refl) (absent_behind dialect m.opens rest)
+behind_spelled dialect ds op m (operands.Literal v) args rest is lone all f a =
+    let g = given_behind dialect m.opens (operands.Literal v) rest (value_spelled dialect ds (operands.Literal v) (line_end rest) is (ends_operand rest)) in
+    bare_behind dialect m.opens (operands.Literal v) args (line_end rest) (lone refl) (record { spelled = g.spelled; no_colon = g.no_colon; ends = g.ends })
+behind_spelled dialect ds op m (operands.Bare z) args rest is lone all f a = absurd is
+behind_spelled dialect ds op m (operands.Variable w) args rest is lone all f a =
+    let g = given_behind dialect m.opens (operands.Variable w) rest (value_spelled dialect ds (operands.Variable w) (line_end rest) is (ends_operand rest)) in
+    bare_behind dialect m.opens (operands.Variable w) args (line_end rest) (lone refl) (record { spelled = g.spelled; no_colon = g.no_colon; ends = g.ends })
+behind_spelled dialect ds op m (operands.Direct loc) args rest is lone all f a =
+    let g = given_behind dialect m.opens (operands.Direct loc) rest (value_spelled dialect ds (operands.Direct loc) (line_end rest) is (ends_operand rest)) in
+    bare_behind dialect m.opens (operands.Direct loc) args (line_end rest) (lone refl) (record { spelled = g.spelled; no_colon = g.no_colon; ends = g.ends })
+behind_spelled dialect ds op m (operands.Label w) args rest is lone all f a =
     let b = label_closed op m.negated m.conditional m.opens w f a in
-    bare_behind m.opens (operands.Label w) args (line_end rest) (lone refl) (subst (λ (t : Bool). IsSpelledBehind t (operands.Label w) [] (line_end rest)) (sym b) (label_behind w rest is))
-behind_spelled ds op m (operands.Field w field) args rest is lone all f a =
-    let g = given_behind m.opens (operands.Field w field) rest (value_spelled ds (operands.Field w field) (line_end rest) is (ends_operand rest)) in
-    bare_behind m.opens (operands.Field w field) args (line_end rest) (lone refl) (record { spelled = g.spelled; no_colon = g.no_colon; ends = g.ends })
-behind_spelled ds op m (operands.Instance w) args rest is lone all f a =
+    bare_behind dialect m.opens (operands.Label w) args (line_end rest) (lone refl) (subst (λ (t : Bool). IsSpelledBehind dialect t (operands.Label w) [] (line_end rest)) (sym b) (label_behind dialect w rest is))
+behind_spelled dialect ds op m (operands.Field w field) args rest is lone all f a =
+    let g = given_behind dialect m.opens (operands.Field w field) rest (value_spelled dialect ds (operands.Field w field) (line_end rest) is (ends_operand rest)) in
+    bare_behind dialect m.opens (operands.Field w field) args (line_end rest) (lone refl) (record { spelled = g.spelled; no_colon = g.no_colon; ends = g.ends })
+behind_spelled dialect ds op m (operands.Instance w) args rest is lone all f a =
     let b = instance_closed op m.negated m.conditional m.opens w f a in
-    subst (λ (t : Bool). IsSpelledBehind t (operands.Instance w) args (line_end rest)) (sym b) (instance_behind ds w args rest is.0 all)
+    subst (λ (t : Bool). IsSpelledBehind dialect t (operands.Instance w) args (line_end rest)) (sym b) (instance_behind dialect ds w args rest is.0 all)
 
 -- ---- operations, before a line end
 
-pub record IsSpelledOperation (line : Instr) (rest : List ℕ) : Type 0 where
+pub record IsSpelledOperation (dialect : Dialect) (line : Instr) (rest : List ℕ) : Type 0 where
   pub first : Token
   pub more : List Token
-  pub begins : Begins (tokens_of (operation_text line ++ rest)) first more
+  pub begins : Begins (tokens_of dialect (operation_text line ++ rest)) first more
   pub no_end : is_end first ≡ false
-  pub no_block : is_word_token (codes "VAR") first ≡ false
-  pub no_label : is_no_label (tokens_of (operation_text line ++ rest)) ≡ true
-  pub spelled : Spell (spelled_operation (written_operation line rest)) (tokens_of (operation_text line ++ rest)) (tokens_of rest)
+  pub no_block : is_word_token (block_word dialect) first ≡ false
+  pub no_label : is_no_label dialect (tokens_of dialect (operation_text line ++ rest)) ≡ true
+  pub spelled : Spell (spelled_operation dialect (written_operation line rest)) (tokens_of dialect (operation_text line ++ rest)) (tokens_of dialect rest)
 
 operation_joined : (line : Instr) (rest : List ℕ) → operation_text line ++ rest ≡ operator_word line.op line.modifier ++ behind_at line.modifier.opens line.operand line.arguments rest
 operation_joined line rest = simp append_assoc refl
@@ -265,80 +272,81 @@ operation_joined line rest = simp append_assoc refl
 abbrev operator_at : Op → Modifier → ℕ → Operator
 operator_at op m left = record { mnemonic = mnemonic op m; left = left }
 
-word_operator : (op : Op) (m : Modifier) (b : BehindText) (rest : List ℕ) → IsOperatorWord op m → accepts (form_of op) b ≡ true
-    → operator_before b (token_at signs.Name (operator_word op m) rest) ≡ Some (operator_at op m (length (operator_word op m ++ rest)))
+word_operator : (dialect : Dialect) (op : Op) (m : Modifier) (b : BehindText) (rest : List ℕ) → IsOperatorWord dialect op m → accepts (form_of op) b ≡ true
+    → operator_before dialect b (token_at signs.Name (operator_word op m) rest) ≡ Some (operator_at op m (length (operator_word op m ++ rest)))
 unfolding operator_of
-word_operator op m b rest is fits = rw (is.means, fits) refl
+word_operator dialect op m b rest is fits = rw (is.means, fits) refl
 
-no_label_word : (ts : List Token) (w rest : List ℕ) (us : List Token) → ts ≡ token_at signs.Name w rest ∷ us → next_is signs.Colon us ≡ false → is_none (mnemonic_of w) ≡ false → is_no_label ts ≡ true
+no_label_word : (dialect : Dialect) (ts : List Token) (w rest : List ℕ) (us : List Token) → ts ≡ token_at signs.Name w rest ∷ us → next_is signs.Colon us ≡ false → is_none (operator_in dialect w) ≡ false → is_no_label dialect ts ≡ true
 unfolding is_label
-no_label_word ts w rest us e colon known = ap is_no_label e ∙ rw (colon, known) refl
+no_label_word dialect ts w rest us e colon known = ap (is_no_label dialect) e ∙ rw (colon, known) refl
 
 -- an operator is no keyword
-no_mnemonic : mnemonic_of (codes "VAR") ≡ None
-unfolding mnemonic_of look spells
-no_mnemonic = refl
+no_mnemonic : (dialect : Dialect) → operator_in dialect (block_word dialect) ≡ None
+unfolding mnemonic_of extended_mnemonic_of look function_named look_function spells
+no_mnemonic dialects.Plain = refl
+no_mnemonic dialects.Extended = refl
 
-no_keyword : (op : Op) (m : Modifier) → IsOperatorWord op m → spells (codes "VAR") (operator_word op m) ≡ false
-no_keyword op m is = by_test (spells (codes "VAR") (operator_word op m)) refl
+no_keyword : (dialect : Dialect) (op : Op) (m : Modifier) → IsOperatorWord dialect op m → spells (block_word dialect) (operator_word op m) ≡ false
+no_keyword dialect op m is = by_test (spells (block_word dialect) (operator_word op m)) refl
   where
-    by_test : (b : Bool) → spells (codes "VAR") (operator_word op m) ≡ b → b ≡ false
+    by_test : (b : Bool) → spells (block_word dialect) (operator_word op m) ≡ b → b ≡ false
     by_test false e = refl
     by_test true e =
-        let same : operator_word op m ≡ codes "VAR" = sym (capital (operator_word op m) is.name) ∙ spelled_is (codes "VAR") (operator_word op m) e in
-        let clash : None ≡ Some (mnemonic op m) = sym no_mnemonic ∙ ap mnemonic_of (sym same) ∙ is.means in
+        let same : operator_word op m ≡ block_word dialect = sym (capital (operator_word op m) is.name) ∙ spelled_is (block_word dialect) (operator_word op m) e in
+        let clash : None ≡ Some (mnemonic op m) = sym (no_mnemonic dialect) ∙ ap (operator_in dialect) (sym same) ∙ is.means in
         absurd cc
 
-word_spelled : (ds : Declarations) (line : Instr) (rest : List ℕ) → IsListedLine ds line → is_word_op line.op ≡ true → IsSpelledOperation line (line_end rest)
-word_spelled ds line rest is word =
+word_spelled : (dialect : Dialect) (ds : Declarations) (line : Instr) (rest : List ℕ) → IsListedLine dialect ds line → is_word_op line.op ≡ true → IsSpelledOperation dialect line (line_end rest)
+word_spelled dialect ds line rest is word =
     let op = line.op in
     let m = line.modifier in
     let u = behind_at m.opens line.operand line.arguments (line_end rest) in
-    let o = operator_again op m word is.letters in
-    let b = behind_spelled ds op m line.operand line.arguments rest is.operand (lone_args ds line is) is.arguments is.form is.letters in
+    let o = operator_again dialect op m word is.known is.letters in
+    let b = behind_spelled dialect ds op m line.operand line.arguments rest is.operand (lone_args dialect ds line is) is.arguments is.form is.letters in
     let t = token_at signs.Name (operator_word op m) u in
-    let ts = tokens_of (operation_text line ++ line_end rest) in
+    let ts = tokens_of dialect (operation_text line ++ line_end rest) in
     let joined = operation_joined line (line_end rest) in
-    let e : ts ≡ t ∷ tokens_of u = ap tokens_of joined ∙ name_token (operator_word op m) u o.name b.ends in
+    let e : ts ≡ t ∷ tokens_of dialect u = ap (tokens_of dialect) joined ∙ name_token dialect (operator_word op m) u o.name b.ends in
     let x = written_behind m.opens line.operand line.arguments (line_end rest) in
-    let f = word_operator op m x u o (takes op m line.operand line.arguments (line_end rest) is.letters is.form) ∙ ap (λ (n : ℕ). Some (operator_at op m n)) (sym (ap length joined)) in
+    let f = word_operator dialect op m x u o (takes op m line.operand line.arguments (line_end rest) is.letters is.form) ∙ ap (λ (n : ℕ). Some (operator_at op m n)) (sym (ap length joined)) in
     record {
       first = t;
-      more = tokens_of u;
+      more = tokens_of dialect u;
       begins = record { is = e; solid = refl };
       no_end = refl;
-      no_block = no_keyword op m o;
-      no_label = no_label_word ts (operator_word op m) u (tokens_of u) e b.no_colon (ap is_none o.means);
-      spelled = spell_operator (operator_before x) (written_operation line (line_end rest)).operator t (spelled_behind x) ts (tokens_of u) (tokens_of (line_end rest)) e f b.spelled;
+      no_block = no_keyword dialect op m o;
+      no_label = no_label_word dialect ts (operator_word op m) u (tokens_of dialect u) e b.no_colon (ap is_none o.means);
+      spelled = spell_operator (operator_before dialect x) (written_operation line (line_end rest)).operator t (spelled_behind x) ts (tokens_of dialect u) (tokens_of dialect (line_end rest)) e f b.spelled;
     }
 
 -- the right parenthesis
-close_lone : (label : Option (List ℕ)) (rest : List ℕ) → IsSpelledOperation (instr label ops.Close (letters false false false) operands.Absent []) (line_end rest)
+close_lone : (dialect : Dialect) (label : Option (List ℕ)) (rest : List ℕ) → IsSpelledOperation dialect (instr label ops.Close (letters false false false) operands.Absent []) (line_end rest)
 unfolding operator_of is_label
-close_lone label rest =
+close_lone dialect label rest =
     let line = instr label ops.Close (letters false false false) operands.Absent [] in
     let t = token_at signs.Close (41 ∷ []) (line_end rest) in
-    let ts = tokens_of (operation_text line ++ line_end rest) in
-    let e : ts ≡ t ∷ tokens_of (line_end rest) = close_token (line_end rest) in
+    let ts = tokens_of dialect (operation_text line ++ line_end rest) in
+    let e : ts ≡ t ∷ tokens_of dialect (line_end rest) = close_token dialect (line_end rest) in
     record {
       first = t;
-      more = tokens_of (line_end rest);
+      more = tokens_of dialect (line_end rest);
       begins = record { is = e; solid = refl };
       no_end = refl;
       no_block = refl;
-      no_label = ap is_no_label e;
-      spelled = spell_operator (operator_before (written_absent false)) (written_operation line (line_end rest)).operator t [] ts (tokens_of (line_end rest)) (tokens_of (line_end rest)) e refl refl;
+      no_label = ap (is_no_label dialect) e;
+      spelled = spell_operator (operator_before dialect (written_absent false)) (written_operation line (line_end rest)).operator t [] ts (tokens_of dialect (line_end rest)) (tokens_of dialect (line_end rest)) e refl refl;
     }
 
-close_spelled : (label : Option (List ℕ)) (n c b : Bool) (o : Operand) (args : List Argument) (rest : List ℕ) → allowed_by (usage_of ops.Close) (letters n c b) ≡ true → formed_by (usage_of ops.Close) (letters n c b) o ≡ true → args ≡ []
-    → IsSpelledOperation (instr label ops.Close (letters n c b) o args) (line_end rest)
-close_spelled label false false false operands.Absent args rest a f e = subst (λ (xs : List Argument). IsSpelledOperation (instr label ops.Close (letters false false false) operands.Absent xs) (line_end rest)) (sym e) (close_lone label rest)
-close_spelled label n c b o args rest a f e = absurd cc
+close_spelled : (dialect : Dialect) (label : Option (List ℕ)) (n c b : Bool) (o : Operand) (args : List Argument) (rest : List ℕ) → allowed_by (usage_of ops.Close) (letters n c b) ≡ true → formed_by (usage_of ops.Close) (letters n c b) o ≡ true → args ≡ []
+    → IsSpelledOperation dialect (instr label ops.Close (letters n c b) o args) (line_end rest)
+close_spelled dialect label false false false operands.Absent args rest a f e = subst (λ (xs : List Argument). IsSpelledOperation dialect (instr label ops.Close (letters false false false) operands.Absent xs) (line_end rest)) (sym e) (close_lone dialect label rest)
+close_spelled dialect label n c b o args rest a f e = absurd cc
 
-operation_by : (ds : Declarations) (label : Option (List ℕ)) (op : Op) (m : Modifier) (o : Operand) (args : List Argument) (rest : List ℕ) → IsListedLine ds (instr label op m o args) → is_empty op ≡ false → IsSpelledOperation (instr label op m o args) (line_end rest)
-operation_by ds label ops.Empty m o args rest is full = absurd cc
-operation_by ds label ops.Close m o args rest is full = close_spelled label m.negated m.conditional m.opens o args rest is.letters is.form (no_args args is.called)
-operation_by ds label op m o args rest is full = word_spelled ds (instr label op m o args) rest is refl
+operation_by : (dialect : Dialect) (ds : Declarations) (label : Option (List ℕ)) (op : Op) (m : Modifier) (o : Operand) (args : List Argument) (rest : List ℕ) → IsListedLine dialect ds (instr label op m o args) → is_empty op ≡ false → IsSpelledOperation dialect (instr label op m o args) (line_end rest)
+operation_by dialect ds label ops.Empty m o args rest is full = absurd cc
+operation_by dialect ds label ops.Close m o args rest is full = close_spelled dialect label m.negated m.conditional m.opens o args rest is.letters is.form (no_args args is.called)
+operation_by dialect ds label op m o args rest is full = word_spelled dialect ds (instr label op m o args) rest is refl
 
-pub operation_spelled : (ds : Declarations) (line : Instr) (rest : List ℕ) → IsListedLine ds line → is_empty line.op ≡ false → IsSpelledOperation line (10 ∷ rest)
-operation_spelled ds line rest is full = operation_by ds line.label line.op line.modifier line.operand line.arguments rest is full
+pub operation_spelled : (dialect : Dialect) (ds : Declarations) (line : Instr) (rest : List ℕ) → IsListedLine dialect ds line → is_empty line.op ≡ false → IsSpelledOperation dialect line (10 ∷ rest)
+operation_spelled dialect ds line rest is full = operation_by dialect ds line.label line.op line.modifier line.operand line.arguments rest is full

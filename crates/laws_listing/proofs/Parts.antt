@@ -1,5 +1,6 @@
 -- One part more of what tokens spell.
 use Rattle.std.proofs.Common.{◌≡◌, ℕ, Bool, true, false, List, [], ◌∷◌, Option, Some, refl, sym, ap, ◌∙◌, subst}
+use Rattle.il_model.specs.declared.dialect.Dialect.{Dialect}
 use Rattle.il_reader.specs.declared.contents.Operator.{Operator}
 use Rattle.il_reader.specs.declared.lexeme.Sign.TheVariants as signs
 use Rattle.il_reader.specs.Tokens.{Token, tokens_of}
@@ -38,10 +39,10 @@ skip_none ts x more b = ap skip_breaks b.is ∙ solid_stays x more b.solid ∙ s
 pub spell_solid : (ps : List Part) (ts : List Token) (x : Token) (more rest : List Token) → Begins ts x more → Spell ps ts rest → Spell (breaks ∷ ps) ts rest
 spell_solid ps ts x more rest b h = spell_same ps (skip_breaks ts) ts rest (skip_none ts x more b) h
 
-pub skip_one : (bytes : List ℕ) (ts : List Token) (x : Token) (more : List Token) → ts ≡ token_at signs.Break (10 ∷ []) bytes ∷ tokens_of bytes → Begins (tokens_of bytes) x more → skip_breaks ts ≡ tokens_of bytes
+pub skip_one : (dialect : Dialect) (bytes : List ℕ) (ts : List Token) (x : Token) (more : List Token) → ts ≡ token_at signs.Break (10 ∷ []) bytes ∷ tokens_of dialect bytes → Begins (tokens_of dialect bytes) x more → skip_breaks ts ≡ tokens_of dialect bytes
 unfolding skip_breaks
-skip_one bytes ts x more e b = ap skip_breaks e ∙ skip_none (tokens_of bytes) x more b
+skip_one dialect bytes ts x more e b = ap skip_breaks e ∙ skip_none (tokens_of dialect bytes) x more b
 
 -- one line end stands here
-pub spell_break : (ps : List Part) (ts : List Token) (bytes : List ℕ) (x : Token) (more rest : List Token) → ts ≡ token_at signs.Break (10 ∷ []) bytes ∷ tokens_of bytes → Begins (tokens_of bytes) x more → Spell ps (tokens_of bytes) rest → Spell (breaks ∷ ps) ts rest
-spell_break ps ts bytes x more rest e b h = spell_same ps (skip_breaks ts) (tokens_of bytes) rest (skip_one bytes ts x more e b) h
+pub spell_break : (dialect : Dialect) (ps : List Part) (ts : List Token) (bytes : List ℕ) (x : Token) (more rest : List Token) → ts ≡ token_at signs.Break (10 ∷ []) bytes ∷ tokens_of dialect bytes → Begins (tokens_of dialect bytes) x more → Spell ps (tokens_of dialect bytes) rest → Spell (breaks ∷ ps) ts rest
+spell_break dialect ps ts bytes x more rest e b h = spell_same ps (skip_breaks ts) (tokens_of dialect bytes) rest (skip_one dialect bytes ts x more e b) h

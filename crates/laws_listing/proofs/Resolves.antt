@@ -4,6 +4,7 @@ use Rattle.std.specs.Prelude.{nat_eq}
 use Rattle.std.specs.List.{AllByRecursion, flat_map}
 use Rattle.std.proofs.lemmas.List.{length-append, append-nil}
 use Rattle.std.proofs.lemmas.Bool.{lt-leb, eqb-true}
+use Rattle.il_model.specs.declared.dialect.Dialect.{Dialect}
 use Rattle.il_model.specs.declared.op.Op.{Op}
 use Rattle.il_model.specs.declared.op.Op.TheVariants as ops
 use Rattle.il_model.specs.declared.op.Modifier.{Modifier}
@@ -29,59 +30,59 @@ use Rattle.laws_listing.proofs.Written.{token_at, written_operand, written_argum
 
 -- ---- operands
 
-value_back : (ds : Declarations) (o : Operand) (rest : List ℕ) → IsValueOperand ds o → operand_of ds (written_operand o rest) ≡ Ok o
-value_back ds operands.Absent rest is = absurd is
-value_back ds (operands.Literal v) rest is = rw (literal_again v is) refl
-value_back ds (operands.Bare z) rest is = absurd is
-value_back ds (operands.Variable name) rest is = rw (capital name is.0.name, is.1) refl
-value_back ds (operands.Direct loc) rest is = rw (location_again loc is) refl
-value_back ds (operands.Label name) rest is = absurd is
-value_back ds (operands.Field name field) rest is = rw (capital name is.0.name, capital field is.1.name, is.2) refl
-value_back ds (operands.Instance name) rest is = absurd is
+value_back : (dialect : Dialect) (ds : Declarations) (o : Operand) (rest : List ℕ) → IsValueOperand dialect ds o → operand_of dialect ds (written_operand o rest) ≡ Ok o
+value_back dialect ds operands.Absent rest is = absurd is
+value_back dialect ds (operands.Literal v) rest is = rw (literal_again dialect v is) refl
+value_back dialect ds (operands.Bare z) rest is = absurd is
+value_back dialect ds (operands.Variable name) rest is = rw (capital name is.0.name, is.1) refl
+value_back dialect ds (operands.Direct loc) rest is = rw (location_again loc is) refl
+value_back dialect ds (operands.Label name) rest is = absurd is
+value_back dialect ds (operands.Field name field) rest is = rw (capital name is.0.name, capital field is.1.name, is.2) refl
+value_back dialect ds (operands.Instance name) rest is = absurd is
 
-given_back : (ds : Declarations) (b : Bool) (o : Operand) (rest : List ℕ) → IsValueOperand ds o → behind_of ds (written_value b (written_operand o rest)) ≡ Ok o
-given_back ds true o rest is = value_back ds o rest is
-given_back ds false o rest is = value_back ds o rest is
+given_back : (dialect : Dialect) (ds : Declarations) (b : Bool) (o : Operand) (rest : List ℕ) → IsValueOperand dialect ds o → behind_of dialect ds (written_value b (written_operand o rest)) ≡ Ok o
+given_back dialect ds true o rest is = value_back dialect ds o rest is
+given_back dialect ds false o rest is = value_back dialect ds o rest is
 
-absent_back : (ds : Declarations) (b : Bool) → behind_of ds (written_absent b) ≡ Ok operands.Absent
-absent_back ds true = refl
-absent_back ds false = refl
+absent_back : (dialect : Dialect) (ds : Declarations) (b : Bool) → behind_of dialect ds (written_absent b) ≡ Ok operands.Absent
+absent_back dialect ds true = refl
+absent_back dialect ds false = refl
 
-behind_back : (ds : Declarations) (b : Bool) (o : Operand) (args : List Argument) (rest : List ℕ) → IsListedOperand ds o → behind_of ds (written_behind b o args rest) ≡ Ok o
-behind_back ds b operands.Absent args rest is = absent_back ds b
-behind_back ds b (operands.Literal v) args rest is = given_back ds b (operands.Literal v) rest is
-behind_back ds b (operands.Bare z) args rest is = absurd is
-behind_back ds b (operands.Variable name) args rest is = given_back ds b (operands.Variable name) rest is
-behind_back ds b (operands.Direct loc) args rest is = given_back ds b (operands.Direct loc) rest is
-behind_back ds b (operands.Label name) args rest is = rw (capital name is.name) refl
-behind_back ds b (operands.Field name field) args rest is = given_back ds b (operands.Field name field) rest is
-behind_back ds b (operands.Instance name) args rest is = rw (capital name is.0.name, is.1) refl
+behind_back : (dialect : Dialect) (ds : Declarations) (b : Bool) (o : Operand) (args : List Argument) (rest : List ℕ) → IsListedOperand dialect ds o → behind_of dialect ds (written_behind b o args rest) ≡ Ok o
+behind_back dialect ds b operands.Absent args rest is = absent_back dialect ds b
+behind_back dialect ds b (operands.Literal v) args rest is = given_back dialect ds b (operands.Literal v) rest is
+behind_back dialect ds b (operands.Bare z) args rest is = absurd is
+behind_back dialect ds b (operands.Variable name) args rest is = given_back dialect ds b (operands.Variable name) rest is
+behind_back dialect ds b (operands.Direct loc) args rest is = given_back dialect ds b (operands.Direct loc) rest is
+behind_back dialect ds b (operands.Label name) args rest is = rw (capital name is.name) refl
+behind_back dialect ds b (operands.Field name field) args rest is = given_back dialect ds b (operands.Field name field) rest is
+behind_back dialect ds b (operands.Instance name) args rest is = rw (capital name is.0.name, is.1) refl
 
 -- ---- arguments
 
-argument_back : (ds : Declarations) (a : Argument) (rest : List ℕ) → IsListedArgument ds a → argument_of ds (written_argument a rest) ≡ Ok a
+argument_back : (dialect : Dialect) (ds : Declarations) (a : Argument) (rest : List ℕ) → IsListedArgument dialect ds a → argument_of dialect ds (written_argument a rest) ≡ Ok a
 unfolding argument_of
-argument_back ds a rest is = rw (value_back ds a.operand rest is.operand, capital a.field is.field.name) refl
+argument_back dialect ds a rest is = rw (value_back dialect ds a.operand rest is.operand, capital a.field is.field.name) refl
 
-all_back : (ds : Declarations) (seen args : List Argument) (rest : List ℕ) → AllByRecursion (IsListedArgument ds) args → each (pushed_argument ds) seen (written_all args rest) ≡ Ok (seen ++ args)
+all_back : (dialect : Dialect) (ds : Declarations) (seen args : List Argument) (rest : List ℕ) → AllByRecursion (IsListedArgument dialect ds) args → each (pushed_argument dialect ds) seen (written_all args rest) ≡ Ok (seen ++ args)
 unfolding each
-all_back ds seen [] rest all = rw (append-nil seen) refl
-all_back ds seen (a ∷ args) rest all =
-    rw (argument_back ds a (flat_map next_argument_text args ++ rest) all.0) (all_back ds (seen ++ a ∷ []) args rest all.1 ∙ rw (append_assoc seen (a ∷ []) args) refl)
+all_back dialect ds seen [] rest all = rw (append-nil seen) refl
+all_back dialect ds seen (a ∷ args) rest all =
+    rw (argument_back dialect ds a (flat_map next_argument_text args ++ rest) all.0) (all_back dialect ds (seen ++ a ∷ []) args rest all.1 ∙ rw (append_assoc seen (a ∷ []) args) refl)
 
-call_back : (ds : Declarations) (name : List ℕ) (args : List Argument) (rest : List ℕ) → AllByRecursion (IsListedArgument ds) args → behind_arguments ds (written_behind false (operands.Instance name) args rest) ≡ Ok args
+call_back : (dialect : Dialect) (ds : Declarations) (name : List ℕ) (args : List Argument) (rest : List ℕ) → AllByRecursion (IsListedArgument dialect ds) args → behind_arguments dialect ds (written_behind false (operands.Instance name) args rest) ≡ Ok args
 unfolding each
-call_back ds name [] rest all = refl
-call_back ds name (a ∷ args) rest all = all_back ds [] (a ∷ args) (41 ∷ rest) all
+call_back dialect ds name [] rest all = refl
+call_back dialect ds name (a ∷ args) rest all = all_back dialect ds [] (a ∷ args) (41 ∷ rest) all
 
 -- what is no call has no arguments
-no_call_back : (ds : Declarations) (b : Bool) (o : Operand) (rest : List ℕ) → behind_arguments ds (written_value b (written_operand o rest)) ≡ Ok []
-no_call_back ds true o rest = refl
-no_call_back ds false o rest = refl
+no_call_back : (dialect : Dialect) (ds : Declarations) (b : Bool) (o : Operand) (rest : List ℕ) → behind_arguments dialect ds (written_value b (written_operand o rest)) ≡ Ok []
+no_call_back dialect ds true o rest = refl
+no_call_back dialect ds false o rest = refl
 
-absent_no_call : (ds : Declarations) (b : Bool) → behind_arguments ds (written_absent b) ≡ Ok []
-absent_no_call ds true = refl
-absent_no_call ds false = refl
+absent_no_call : (dialect : Dialect) (ds : Declarations) (b : Bool) → behind_arguments dialect ds (written_absent b) ≡ Ok []
+absent_no_call dialect ds true = refl
+absent_no_call dialect ds false = refl
 
 pub no_args : (args : List Argument) → eqb (length args) 0 ≡ true → args ≡ []
 no_args [] e = refl
@@ -103,21 +104,21 @@ not_call ops.Cal m (operands.Field name field) i f = absurd cc
 not_call ops.Cal m (operands.Instance name) i f = absurd cc
 not_call op m o i f = refl
 
-pub lone_args : (ds : Declarations) (line : Instr) → IsListedLine ds line → is_instance line.operand ≡ false → line.arguments ≡ []
-lone_args ds line is lone = no_args line.arguments (rw (not_call line.op line.modifier line.operand lone is.form) at is.called)
+pub lone_args : (dialect : Dialect) (ds : Declarations) (line : Instr) → IsListedLine dialect ds line → is_instance line.operand ≡ false → line.arguments ≡ []
+lone_args dialect ds line is lone = no_args line.arguments (rw (not_call line.op line.modifier line.operand lone is.form) at is.called)
 
-none_back : (ds : Declarations) (x : BehindText) (args : List Argument) → args ≡ [] → behind_arguments ds x ≡ Ok [] → behind_arguments ds x ≡ Ok args
-none_back ds x args e h = h ∙ ap (λ (xs : List Argument). let r : Result (List Argument) FaultAt = Ok xs in r) (sym e)
+none_back : (dialect : Dialect) (ds : Declarations) (x : BehindText) (args : List Argument) → args ≡ [] → behind_arguments dialect ds x ≡ Ok [] → behind_arguments dialect ds x ≡ Ok args
+none_back dialect ds x args e h = h ∙ ap (λ (xs : List Argument). let r : Result (List Argument) FaultAt = Ok xs in r) (sym e)
 
-given_args : (ds : Declarations) (b : Bool) (o : Operand) (args : List Argument) (rest : List ℕ) → (is_instance o ≡ false → args ≡ []) → AllByRecursion (IsListedArgument ds) args → behind_arguments ds (written_behind b o args rest) ≡ Ok args
-given_args ds b operands.Absent args rest lone all = none_back ds (written_absent b) args (lone refl) (absent_no_call ds b)
-given_args ds b (operands.Literal v) args rest lone all = none_back ds (written_value b (written_operand (operands.Literal v) rest)) args (lone refl) (no_call_back ds b (operands.Literal v) rest)
-given_args ds b (operands.Bare z) args rest lone all = none_back ds (written_value b (written_operand (operands.Bare z) rest)) args (lone refl) (no_call_back ds b (operands.Bare z) rest)
-given_args ds b (operands.Variable name) args rest lone all = none_back ds (written_value b (written_operand (operands.Variable name) rest)) args (lone refl) (no_call_back ds b (operands.Variable name) rest)
-given_args ds b (operands.Direct loc) args rest lone all = none_back ds (written_value b (written_operand (operands.Direct loc) rest)) args (lone refl) (no_call_back ds b (operands.Direct loc) rest)
-given_args ds b (operands.Label name) args rest lone all = none_back ds (written_behind b (operands.Label name) args rest) args (lone refl) refl
-given_args ds b (operands.Field name field) args rest lone all = none_back ds (written_value b (written_operand (operands.Field name field) rest)) args (lone refl) (no_call_back ds b (operands.Field name field) rest)
-given_args ds b (operands.Instance name) args rest lone all = call_back ds name args rest all
+given_args : (dialect : Dialect) (ds : Declarations) (b : Bool) (o : Operand) (args : List Argument) (rest : List ℕ) → (is_instance o ≡ false → args ≡ []) → AllByRecursion (IsListedArgument dialect ds) args → behind_arguments dialect ds (written_behind b o args rest) ≡ Ok args
+given_args dialect ds b operands.Absent args rest lone all = none_back dialect ds (written_absent b) args (lone refl) (absent_no_call dialect ds b)
+given_args dialect ds b (operands.Literal v) args rest lone all = none_back dialect ds (written_value b (written_operand (operands.Literal v) rest)) args (lone refl) (no_call_back dialect ds b (operands.Literal v) rest)
+given_args dialect ds b (operands.Bare z) args rest lone all = none_back dialect ds (written_value b (written_operand (operands.Bare z) rest)) args (lone refl) (no_call_back dialect ds b (operands.Bare z) rest)
+given_args dialect ds b (operands.Variable name) args rest lone all = none_back dialect ds (written_value b (written_operand (operands.Variable name) rest)) args (lone refl) (no_call_back dialect ds b (operands.Variable name) rest)
+given_args dialect ds b (operands.Direct loc) args rest lone all = none_back dialect ds (written_value b (written_operand (operands.Direct loc) rest)) args (lone refl) (no_call_back dialect ds b (operands.Direct loc) rest)
+given_args dialect ds b (operands.Label name) args rest lone all = none_back dialect ds (written_behind b (operands.Label name) args rest) args (lone refl) refl
+given_args dialect ds b (operands.Field name field) args rest lone all = none_back dialect ds (written_value b (written_operand (operands.Field name field) rest)) args (lone refl) (no_call_back dialect ds b (operands.Field name field) rest)
+given_args dialect ds b (operands.Instance name) args rest lone all = call_back dialect ds name args rest all
 
 -- ---- operators
 
@@ -151,12 +152,12 @@ opens_back op m (operands.Instance name) args rest f a = sym (instance_closed op
 
 -- ---- lines
 
-instruction_back : (ds : Declarations) (label : Option (List ℕ)) (line : Instr) (rest : List ℕ) → IsListedLine ds line → instruction_of ds label (Some (written_operation line rest)) ≡ Ok (record line { label = label })
+instruction_back : (dialect : Dialect) (ds : Declarations) (label : Option (List ℕ)) (line : Instr) (rest : List ℕ) → IsListedLine dialect ds line → instruction_of dialect ds label (Some (written_operation line rest)) ≡ Ok (record line { label = label })
 unfolding instruction_of
-instruction_back ds label line rest is =
+instruction_back dialect ds label line rest is =
     rw (
-      behind_back ds line.modifier.opens line.operand line.arguments rest is.operand,
-      given_args ds line.modifier.opens line.operand line.arguments rest (lone_args ds line is) is.arguments,
+      behind_back dialect ds line.modifier.opens line.operand line.arguments rest is.operand,
+      given_args dialect ds line.modifier.opens line.operand line.arguments rest (lone_args dialect ds line is) is.arguments,
       opens_back line.op line.modifier line.operand line.arguments rest is.form is.letters,
     ) refl
 
@@ -178,24 +179,24 @@ label_back name rest is = rw (capital name is.name, is.free) refl
 abbrev pushed : List Instr → Instr → Result (List Instr) FaultAt
 pushed code line = Ok (code ++ line ∷ [])
 
-optional_back : (ds : Declarations) (name : List ℕ) (line : Instr) (rest : List ℕ) (b : Bool) → is_empty line.op ≡ b → IsListedLine ds line → instruction_of ds (Some name) (unless_empty b (written_operation line rest)) ≡ Ok (record line { label = Some name })
+optional_back : (dialect : Dialect) (ds : Declarations) (name : List ℕ) (line : Instr) (rest : List ℕ) (b : Bool) → is_empty line.op ≡ b → IsListedLine dialect ds line → instruction_of dialect ds (Some name) (unless_empty b (written_operation line rest)) ≡ Ok (record line { label = Some name })
 unfolding instruction_of
-optional_back ds name line rest true e is =
+optional_back dialect ds name line rest true e is =
     ap (λ (l : Instr). let r : Result Instr FaultAt = Ok l in r) (empty_line (Some name) line.op line.modifier.negated line.modifier.conditional line.modifier.opens line.operand line.arguments e is.letters is.form is.called)
-optional_back ds name line rest false e is = instruction_back ds (Some name) line rest is
+optional_back dialect ds name line rest false e is = instruction_back dialect ds (Some name) line rest is
 
-line_by : (ds : Declarations) (code : List Instr) (label : Option (List ℕ)) (line : Instr) (rest : List ℕ) → line.label ≡ label → IsListedLabel label → IsListedLine ds line → length code < 4096
-    → instruct ds code (labelled_line label line rest) ≡ pushed code line
+line_by : (dialect : Dialect) (ds : Declarations) (code : List Instr) (label : Option (List ℕ)) (line : Instr) (rest : List ℕ) → line.label ≡ label → IsListedLabel label → IsListedLine dialect ds line → length code < 4096
+    → instruct dialect ds code (labelled_line label line rest) ≡ pushed code line
 unfolding instruct_plain instruct_labelled
-line_by ds code None line rest e free is lt =
-    rw (room_back code (written_operation line rest).operator.left lt, instruction_back ds None line rest is) (ap (λ (l : Option (List ℕ)). pushed code (record line { label = l })) (sym e))
-line_by ds code (Some name) line rest e free is lt =
+line_by dialect ds code None line rest e free is lt =
+    rw (room_back code (written_operation line rest).operator.left lt, instruction_back dialect ds None line rest is) (ap (λ (l : Option (List ℕ)). pushed code (record line { label = l })) (sym e))
+line_by dialect ds code (Some name) line rest e free is lt =
     let behind = colon_text (is_empty line.op) ++ (operation_text line ++ rest) in
-    rw (label_back name behind free, room_back code (token_at signs.Name name behind).left lt, optional_back ds name line rest (is_empty line.op) refl is) (ap (λ (l : Option (List ℕ)). pushed code (record line { label = l })) (sym e))
+    rw (label_back name behind free, room_back code (token_at signs.Name name behind).left lt, optional_back dialect ds name line rest (is_empty line.op) refl is) (ap (λ (l : Option (List ℕ)). pushed code (record line { label = l })) (sym e))
 
-pub lines_back : (ds : Declarations) (seen code : List Instr) → AllByRecursion (IsListedLine ds) code → length seen + length code ≤ 4096 → each (instruct ds) seen (written_lines code) ≡ Ok (seen ++ code)
+pub lines_back : (dialect : Dialect) (ds : Declarations) (seen code : List Instr) → AllByRecursion (IsListedLine dialect ds) code → length seen + length code ≤ 4096 → each (instruct dialect ds) seen (written_lines code) ≡ Ok (seen ++ code)
 unfolding each
-lines_back ds seen [] all few = rw (append-nil seen) refl
-lines_back ds seen (line ∷ code) all few =
-    rw (line_by ds seen line.label line (10 ∷ flat_map line_text code) refl all.0.label all.0 (omega (arith, few)))
-    (lines_back ds (seen ++ line ∷ []) code all.1 (omega (arith, few, length-append seen (line ∷ []))) ∙ rw (append_assoc seen (line ∷ []) code) refl)
+lines_back dialect ds seen [] all few = rw (append-nil seen) refl
+lines_back dialect ds seen (line ∷ code) all few =
+    rw (line_by dialect ds seen line.label line (10 ∷ flat_map line_text code) refl all.0.label all.0 (omega (arith, few)))
+    (lines_back dialect ds (seen ++ line ∷ []) code all.1 (omega (arith, few, length-append seen (line ∷ []))) ∙ rw (append_assoc seen (line ∷ []) code) refl)

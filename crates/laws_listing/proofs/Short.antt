@@ -4,6 +4,12 @@ use Rattle.std.specs.Prelude.{codes, ℤ, pos, negsuc}
 use Rattle.std.specs.List.{AllByRecursion, flat_map}
 use Rattle.std.proofs.lemmas.List.{length-append}
 use Rattle.std.proofs.lemmas.Bool.{ltb-true}
+use Rattle.il_model.specs.declared.dialect.Dialect.{Dialect}
+use Rattle.il_model.specs.declared.codes.Version.{Version}
+use Rattle.il_model.specs.declared.codes.Version.TheVariants as versions
+use Rattle.il_model.specs.declared.function.Function.{Function}
+use Rattle.il_model.specs.declared.function.Function.TheVariants as functions
+use Rattle.il_model.specs.Image.{version_of}
 use Rattle.il_model.specs.declared.value.Ty.{Ty}
 use Rattle.il_model.specs.declared.value.Ty.TheVariants as types
 use Rattle.il_model.specs.declared.value.Value.{Value}
@@ -33,8 +39,10 @@ use Rattle.il_model.specs.Marks.{word_count, words_in}
 use Rattle.il_model.specs.Fits.{IsImage}
 use Rattle.il_model.specs.CodedOperands.{IsCell}
 use Rattle.il_model.specs.Codes.{is_empty}
-use Rattle.il_lister.specs.Listing.{decimal, number_text, literal_text, area_letter, location_text, type_name, at_text, initial_text, variable_text, instance_text, op_name, letter, operator_text, operand_text, behind_text, side_text, argument_text, next_argument_text, arguments_text, label_text, line_text, listing}
+use Rattle.il_lister.specs.Listing.{decimal, number_text, literal_text, area_letter, location_text, type_name, at_text, initial_text, variable_text, instance_text, function_name, op_name, letter, operator_text, operand_text, behind_text, side_text, argument_text, next_argument_text, arguments_text, label_text, line_text, opening, listing}
+use Rattle.laws_listing.proofs.Sayable.{dialect_for, sayable}
 use Rattle.laws_listing.proofs.Numerals.{decimal_length}
+use Rattle.laws_listing.proofs.RealTexts.{real_so}
 use Rattle.il_model.proofs.LiteralLaws.{IsValue}
 use Rattle.laws_listing.proofs.NameTexts.{IsFreeName}
 use Rattle.laws_listing.proofs.Listable.{if_some, IsValueOperand, IsListedOperand, IsListedArgument, IsListedLabel, IsListedLine, listable}
@@ -85,7 +93,7 @@ within_more (negsuc n) e =
 word_most : (n : ℕ) (xs : List ℕ) → length xs ≤ n → AtMost n xs
 word_most n xs le = record { le = le }
 
-literal_most : (v : Value) → IsValue v → AtMost 25 (literal_text v)
+literal_most : (v : Value) → IsValue v → AtMost 36 (literal_text v)
 literal_most (values.Bool true) is = record { le = omega arith }
 literal_most (values.Bool false) is = record { le = omega arith }
 literal_most (values.Int z) is =
@@ -104,6 +112,9 @@ literal_most (values.Time z) is =
     let m = number_most z (if_some (is_within (2 ^ 31) z) (values.Time z) (values.Time z) is).0 in
     let p = m.le in
     record { le = omega (arith, p, length-append (number_text z) (codes "ms")) }
+literal_most (values.Real r) is =
+    let p = (real_so r).short in
+    record { le = omega (arith, p) }
 
 area_most : (area : Area) → AtMost 1 (area_letter area)
 area_most areas.Input = record { le = omega arith }
@@ -133,6 +144,7 @@ type_most types.Int = record { le = omega arith }
 type_most types.Dint = record { le = omega arith }
 type_most types.Time = record { le = omega arith }
 type_most types.Lint = record { le = omega arith }
+type_most types.Real = record { le = omega arith }
 
 kind_most : (kind : BlockKind) → AtMost 6 (kind_name kind)
 kind_most kinds.Sr = record { le = omega arith }
@@ -153,15 +165,15 @@ at_most : (o : Option Loc) → ((loc : Loc) → o ≡ Some loc → IsCell loc) �
 at_most None place = record { le = omega arith }
 at_most (Some loc) place = join (fixed (codes " AT ")) (location_most loc (place loc refl))
 
-initial_if : (b : Bool) (v : Value) → IsValue v → AtMost 29 (cond b [] (codes " := " ++ literal_text v))
+initial_if : (b : Bool) (v : Value) → IsValue v → AtMost 40 (cond b [] (codes " := " ++ literal_text v))
 initial_if true v is = record { le = omega arith }
 initial_if false v is = join (fixed (codes " := ")) (literal_most v is)
 
-initial_most : (v : Value) → IsValue v → AtMost 29 (initial_text v)
+initial_most : (v : Value) → IsValue v → AtMost 40 (initial_text v)
 initial_most v is = initial_if (is_zero (number_of v)) v is
 
-variable_most : (v : Variable) → IsListedVariable v → AtMost 81 (variable_text v)
-variable_most v is = join (name_most v.name is.name) (join (at_most v.location is.place) (join (fixed (codes " : ")) (join (type_most v.ty) (join (initial_most v.initial is.value) (fixed (codes ";\n"))))))
+variable_most : (dialect : Dialect) (v : Variable) → IsListedVariable dialect v → AtMost 92 (variable_text v)
+variable_most dialect v is = join (name_most v.name is.name) (join (at_most v.location is.place) (join (fixed (codes " : ")) (join (type_most v.ty) (join (initial_most v.initial is.value.value) (fixed (codes ";\n"))))))
 
 instance_most : (x : Instance) → IsFreeName x.name → AtMost 43 (instance_text x)
 instance_most x is = join (name_most x.name is) (join (fixed (codes " : ")) (join (kind_most x.kind) (fixed (codes ";\n"))))
@@ -175,49 +187,66 @@ all_most F text n each (x ∷ xs) all =
 
 -- ---- operands and arguments
 
-value_most : (ds : Declarations) (o : Operand) → IsValueOperand ds o → AtMost 36 (operand_text o)
-value_most ds operands.Absent is = absurd is
-value_most ds (operands.Literal v) is = wider 25 36 (literal_text v) (literal_most v is) (omega arith)
-value_most ds (operands.Bare z) is = absurd is
-value_most ds (operands.Variable w) is = wider 32 36 w (name_most w is.0) (omega arith)
-value_most ds (operands.Direct loc) is = wider 7 36 (location_text loc) (location_most loc is) (omega arith)
-value_most ds (operands.Label w) is = absurd is
-value_most ds (operands.Field w field) is = join (name_most w is.0) (join (fixed (codes ".")) (word_most 3 field is.1.small))
-value_most ds (operands.Instance w) is = absurd is
+value_most : (dialect : Dialect) (ds : Declarations) (o : Operand) → IsValueOperand dialect ds o → AtMost 36 (operand_text o)
+value_most dialect ds operands.Absent is = absurd is
+value_most dialect ds (operands.Literal v) is = literal_most v is.value
+value_most dialect ds (operands.Bare z) is = absurd is
+value_most dialect ds (operands.Variable w) is = wider 32 36 w (name_most w is.0) (omega arith)
+value_most dialect ds (operands.Direct loc) is = wider 7 36 (location_text loc) (location_most loc is) (omega arith)
+value_most dialect ds (operands.Label w) is = absurd is
+value_most dialect ds (operands.Field w field) is = join (name_most w is.0) (join (fixed (codes ".")) (word_most 3 field is.1.small))
+value_most dialect ds (operands.Instance w) is = absurd is
 
-behind_most : (ds : Declarations) (o : Operand) → IsListedOperand ds o → AtMost 37 (behind_text o)
-behind_most ds operands.Absent is = record { le = omega arith }
-behind_most ds (operands.Literal v) is = join (fixed (codes " ")) (value_most ds (operands.Literal v) is)
-behind_most ds (operands.Bare z) is = absurd is
-behind_most ds (operands.Variable w) is = join (fixed (codes " ")) (value_most ds (operands.Variable w) is)
-behind_most ds (operands.Direct loc) is = join (fixed (codes " ")) (value_most ds (operands.Direct loc) is)
-behind_most ds (operands.Label w) is = wider 33 37 (codes " " ++ w) (join (fixed (codes " ")) (name_most w is)) (omega arith)
-behind_most ds (operands.Field w field) is = join (fixed (codes " ")) (value_most ds (operands.Field w field) is)
-behind_most ds (operands.Instance w) is = wider 33 37 (codes " " ++ w) (join (fixed (codes " ")) (name_most w is.0)) (omega arith)
+behind_most : (dialect : Dialect) (ds : Declarations) (o : Operand) → IsListedOperand dialect ds o → AtMost 37 (behind_text o)
+behind_most dialect ds operands.Absent is = record { le = omega arith }
+behind_most dialect ds (operands.Literal v) is = join (fixed (codes " ")) (value_most dialect ds (operands.Literal v) is)
+behind_most dialect ds (operands.Bare z) is = absurd is
+behind_most dialect ds (operands.Variable w) is = join (fixed (codes " ")) (value_most dialect ds (operands.Variable w) is)
+behind_most dialect ds (operands.Direct loc) is = join (fixed (codes " ")) (value_most dialect ds (operands.Direct loc) is)
+behind_most dialect ds (operands.Label w) is = wider 33 37 (codes " " ++ w) (join (fixed (codes " ")) (name_most w is)) (omega arith)
+behind_most dialect ds (operands.Field w field) is = join (fixed (codes " ")) (value_most dialect ds (operands.Field w field) is)
+behind_most dialect ds (operands.Instance w) is = wider 33 37 (codes " " ++ w) (join (fixed (codes " ")) (name_most w is.0)) (omega arith)
 
 side_most : (side : Side) → AtMost 4 (side_text side)
 side_most sides.Input = record { le = omega arith }
 side_most sides.Output = record { le = omega arith }
 
-argument_most : (ds : Declarations) (a : Argument) → IsListedArgument ds a → AtMost 43 (argument_text a)
-argument_most ds a is = join (word_most 3 a.field is.field.small) (join (side_most a.side) (value_most ds a.operand is.operand))
+argument_most : (dialect : Dialect) (ds : Declarations) (a : Argument) → IsListedArgument dialect ds a → AtMost 43 (argument_text a)
+argument_most dialect ds a is = join (word_most 3 a.field is.field.small) (join (side_most a.side) (value_most dialect ds a.operand is.operand))
 
-next_most : (ds : Declarations) (a : Argument) → IsListedArgument ds a → AtMost 45 (next_argument_text a)
-next_most ds a is = join (fixed (codes ", ")) (argument_most ds a is)
+next_most : (dialect : Dialect) (ds : Declarations) (a : Argument) → IsListedArgument dialect ds a → AtMost 45 (next_argument_text a)
+next_most dialect ds a is = join (fixed (codes ", ")) (argument_most dialect ds a is)
 
-arguments_most : (ds : Declarations) (args : List Argument) → AllByRecursion (IsListedArgument ds) args → AtMost (45 * length args) (arguments_text args)
-arguments_most ds [] all = record { le = omega arith }
-arguments_most ds (a ∷ more) all =
-    let h = (join (fixed (codes "(")) (join (argument_most ds a all.0) (join (all_most (IsListedArgument ds) next_argument_text 45 (next_most ds) more all.1) (fixed (codes ")"))))).le in
+arguments_most : (dialect : Dialect) (ds : Declarations) (args : List Argument) → AllByRecursion (IsListedArgument dialect ds) args → AtMost (45 * length args) (arguments_text args)
+arguments_most dialect ds [] all = record { le = omega arith }
+arguments_most dialect ds (a ∷ more) all =
+    let h = (join (fixed (codes "(")) (join (argument_most dialect ds a all.0) (join (all_most (IsListedArgument dialect ds) next_argument_text 45 (next_most dialect ds) more all.1) (fixed (codes ")"))))).le in
     record { le = omega (arith, h) }
 
 -- ---- lines
+
+function_most : (f : Function) → AtMost 12 (function_name f)
+function_most functions.IntToReal = record { le = omega arith }
+function_most functions.DintToReal = record { le = omega arith }
+function_most functions.LintToReal = record { le = omega arith }
+function_most functions.TimeToReal = record { le = omega arith }
+function_most functions.RealToInt = record { le = omega arith }
+function_most functions.RealToDint = record { le = omega arith }
+function_most functions.RealToLint = record { le = omega arith }
+function_most functions.RealToTime = record { le = omega arith }
+function_most functions.Trunc = record { le = omega arith }
+function_most functions.Abs = record { le = omega arith }
+function_most functions.Sqrt = record { le = omega arith }
+function_most functions.TimeToDint = record { le = omega arith }
+function_most functions.DintToTime = record { le = omega arith }
+function_most functions.Move = record { le = omega arith }
 
 op_most : (op : Op) → AtMost 12 (op_name op)
 op_most ops.IntToDint = record { le = omega arith }
 op_most ops.DintToInt = record { le = omega arith }
 op_most ops.DintToLint = record { le = omega arith }
 op_most ops.LintToDint = record { le = omega arith }
+op_most (ops.Apply f) = function_most f
 op_most op = record { le = omega arith }
 
 letter_most : (b : Bool) (n : ℕ) (xs : List ℕ) → AtMost n xs → AtMost n (letter b xs)
@@ -235,26 +264,33 @@ label_most : (op : Op) (o : Option (List ℕ)) → IsListedLabel o → AtMost 34
 label_most op None is = record { le = omega arith }
 label_most op (Some w) is = join (name_most w is) (colon_most (is_empty op))
 
-line_most : (ds : Declarations) (line : Instr) → IsListedLine ds line → AtMost (45 * word_count line + 44) (line_text line)
-line_most ds line is =
-    let h = (join (label_most line.op line.label is.label) (join (join (operator_most line.op line.modifier) (join (behind_most ds line.operand is.operand) (arguments_most ds line.arguments is.arguments))) (fixed (codes "\n")))).le in
+line_most : (dialect : Dialect) (ds : Declarations) (line : Instr) → IsListedLine dialect ds line → AtMost (45 * word_count line + 44) (line_text line)
+line_most dialect ds line is =
+    let h = (join (label_most line.op line.label is.label) (join (join (operator_most line.op line.modifier) (join (behind_most dialect ds line.operand is.operand) (arguments_most dialect ds line.arguments is.arguments))) (fixed (codes "\n")))).le in
     record { le = omega (arith, h) }
 
-lines_most : (ds : Declarations) (code : List Instr) → AllByRecursion (IsListedLine ds) code → AtMost (45 * words_in code + 44 * length code) (flat_map line_text code)
-lines_most ds [] all = record { le = omega arith }
-lines_most ds (line ∷ code) all =
-    let h = (join (line_most ds line all.0) (lines_most ds code all.1)).le in
+lines_most : (dialect : Dialect) (ds : Declarations) (code : List Instr) → AllByRecursion (IsListedLine dialect ds) code → AtMost (45 * words_in code + 44 * length code) (flat_map line_text code)
+lines_most dialect ds [] all = record { le = omega arith }
+lines_most dialect ds (line ∷ code) all =
+    let h = (join (line_most dialect ds line all.0) (lines_most dialect ds code all.1)).le in
     record { le = omega (arith, h) }
 
 -- ---- the whole
 
+opening_most : (version : Version) → AtMost 11 (opening version)
+opening_most versions.One = record { le = omega arith }
+opening_most versions.Two = record { le = omega arith }
+opening_most versions.Three = record { le = omega arith }
+
 pub listing_short : (Q : Program) → IsImage Q → length (listing Q) ≤ 2097152
 listing_short Q is =
-    let all = listable Q is in
-    let vs = all_most IsListedVariable variable_text 81 variable_most Q.variables (variables_listed Q is) in
+    let dialect = dialect_for (version_of Q) in
+    let said = sayable Q is in
+    let all = listable dialect Q said in
+    let vs = all_most (IsListedVariable dialect) variable_text 92 (variable_most dialect) Q.variables (variables_listed dialect Q said) in
     let xs = all_most (λ (x : Instance). IsFreeName x.name) instance_text 43 instance_most Q.instances all.names.instances in
-    let code = lines_most (declared_by Q) Q.code all.lines in
-    let h = (join (fixed (codes "VAR\n")) (join vs (join xs (join (fixed (codes "END_VAR\n")) code)))).le in
+    let code = lines_most dialect (declared_by Q) Q.code all.lines in
+    let h = (join (opening_most (version_of Q)) (join vs (join xs (join (fixed (codes "END_VAR\n")) code)))).le in
     let a = is.text.variables_few in
     let b = is.text.instances_few in
     let c = is.short in

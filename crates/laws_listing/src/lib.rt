@@ -9,8 +9,10 @@
 //! ```
 //!
 //! Proved: the listing of every program that has an image is a text that is read and resolved to that same program,
-//! which is its own typed program (`specs/ReadBack`). So it assembles to the same bytes. It joins four crates that
-//! don't know of one another: the lister with the reader, the declarations and the typing, each by its own definitions.
+//! which is its own typed program (`specs/ReadBack`). So it assembles to the same bytes. Its first word tells whether
+//! it's read as a plain text, as those of the first two versions of images, or as an extended one. It joins four crates
+//! that don't know of one another: the lister with the reader, the declarations and the typing, each by its own
+//! definitions.
 //!
 //! Tests (nothing rests on them alone): `images.rows` of `tests_rows` assembles listings again.
 #![tactic(auto)]

@@ -8,10 +8,10 @@ use Rattle.il_declarations.proofs.instructions.instructions.Goals as goal
 pub returns-in_err-push_line : goal.returns-in_err-push_line
 returns-in_err-push_line c =
     let p = err_from_is_err_and c.from_residual.result c.from_residual.ensures.1 in
-    rw (p.1, p.2) (ends_item c.in_err-push_line.field-0.0 (instruct c.args.known.now) line c.loop-written.code.items c.args.lines.now c.loop-written.written-index c.written-item.result (each (instruct c.args.known.now) [] (map line c.args.lines.now)) c.loop-written-test.true c.written-item.is c.in_err-push_line.ensures c.loop-written.invariant)
+    rw (p.1, p.2) (ends_item c.in_err-push_line.field-0.0 (instruct c.args.dialect c.args.known.now) line c.loop-written.code.items c.args.lines.now c.loop-written.written-index c.written-item.result (each (instruct c.args.dialect c.args.known.now) [] (map line c.args.lines.now)) c.loop-written-test.true c.written-item.is c.in_err-push_line.ensures c.loop-written.invariant)
 
 pub loop-written-preserved : goal.loop-written-preserved
-loop-written-preserved c = goes_on_item (instruct c.args.known.now) line c.loop-written.code.items c.push_line.new.code.items c.args.lines.now c.loop-written.written-index c.written-item.result (each (instruct c.args.known.now) [] (map line c.args.lines.now)) c.loop-written-test.true c.written-item.is c.in_ok-push_line.ensures c.loop-written.invariant
+loop-written-preserved c = goes_on_item (instruct c.args.dialect c.args.known.now) line c.loop-written.code.items c.push_line.new.code.items c.args.lines.now c.loop-written.written-index c.written-item.result (each (instruct c.args.dialect c.args.known.now) [] (map line c.args.lines.now)) c.loop-written-test.true c.written-item.is c.in_ok-push_line.ensures c.loop-written.invariant
 
 pub returns : goal.returns
-returns c = is_done (instruct c.args.known.now) line c.loop-written.code.items c.args.lines.now c.loop-written.written-index (each (instruct c.args.known.now) [] (map line c.args.lines.now)) c.loop-written-test.false c.loop-written.invariant
+returns c = is_done (instruct c.args.dialect c.args.known.now) line c.loop-written.code.items c.args.lines.now c.loop-written.written-index (each (instruct c.args.dialect c.args.known.now) [] (map line c.args.lines.now)) c.loop-written-test.false c.loop-written.invariant

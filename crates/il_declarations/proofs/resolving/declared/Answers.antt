@@ -8,10 +8,10 @@ use Rattle.il_declarations.proofs.resolving.declared.Goals as goal
 pub returns-in_err-declare_each : goal.returns-in_err-declare_each
 returns-in_err-declare_each c =
     let p = err_from_is_err_and c.from_residual.result c.from_residual.ensures.1 in
-    rw (p.1, p.2) (ends_item c.in_err-declare_each.field-0.0 declare_block (λ ds. declarations ds.items) c.loop-block.known c.args.blocks.now c.loop-block.block-index c.block-item.result (each declare_block nothing (map (λ ds. declarations ds.items) c.args.blocks.now)) c.loop-block-test.true c.block-item.is (rw c.as_slice.ensures.value at c.in_err-declare_each.ensures) c.loop-block.invariant)
+    rw (p.1, p.2) (ends_item c.in_err-declare_each.field-0.0 (declare_block c.args.dialect) (λ ds. declarations ds.items) c.loop-block.known c.args.blocks.now c.loop-block.block-index c.block-item.result (each (declare_block c.args.dialect) nothing (map (λ ds. declarations ds.items) c.args.blocks.now)) c.loop-block-test.true c.block-item.is (rw c.as_slice.ensures.value at c.in_err-declare_each.ensures) c.loop-block.invariant)
 
 pub loop-block-preserved : goal.loop-block-preserved
-loop-block-preserved c = goes_on_item declare_block (λ ds. declarations ds.items) c.loop-block.known c.declare_each.new.known c.args.blocks.now c.loop-block.block-index c.block-item.result (each declare_block nothing (map (λ ds. declarations ds.items) c.args.blocks.now)) c.loop-block-test.true c.block-item.is (rw c.as_slice.ensures.value at c.in_ok-declare_each.ensures) c.loop-block.invariant
+loop-block-preserved c = goes_on_item (declare_block c.args.dialect) (λ ds. declarations ds.items) c.loop-block.known c.declare_each.new.known c.args.blocks.now c.loop-block.block-index c.block-item.result (each (declare_block c.args.dialect) nothing (map (λ ds. declarations ds.items) c.args.blocks.now)) c.loop-block-test.true c.block-item.is (rw c.as_slice.ensures.value at c.in_ok-declare_each.ensures) c.loop-block.invariant
 
 pub returns : goal.returns
-returns c = is_done declare_block (λ ds. declarations ds.items) c.loop-block.known c.args.blocks.now c.loop-block.block-index (each declare_block nothing (map (λ ds. declarations ds.items) c.args.blocks.now)) c.loop-block-test.false c.loop-block.invariant
+returns c = is_done (declare_block c.args.dialect) (λ ds. declarations ds.items) c.loop-block.known c.args.blocks.now c.loop-block.block-index (each (declare_block c.args.dialect) nothing (map (λ ds. declarations ds.items) c.args.blocks.now)) c.loop-block-test.false c.loop-block.invariant

@@ -4,4 +4,4 @@ use Rattle.il_declarations.specs.Walk.{nothing, declare_block, each}
 use Rattle.il_declarations.proofs.resolving.declared.Given as goal
 
 abbrev pub invariant-loop-block : goal.invariant-loop-block
-invariant-loop-block l = each declare_block l.known (drop l.block-index (map (λ ds. declarations ds.items) l.blocks)) ≡ each declare_block nothing (map (λ ds. declarations ds.items) l.blocks)
+invariant-loop-block l = each (declare_block l.dialect) l.known (drop l.block-index (map (λ ds. declarations ds.items) l.blocks)) ≡ each (declare_block l.dialect) nothing (map (λ ds. declarations ds.items) l.blocks)

@@ -8,10 +8,10 @@ use Rattle.il_declarations.proofs.variables.declare_each.Goals as goal
 pub returns-in_err-declare_one : goal.returns-in_err-declare_one
 returns-in_err-declare_one c =
     let p = err_from_is_err_and c.from_residual.result c.from_residual.ensures.1 in
-    rw (p.1, p.2) (ends_item c.in_err-declare_one.field-0.0 declare declaration c.loop-d.known c.args.block.now c.loop-d.d-index c.d-item.result (each declare c.args.known.now (map declaration c.args.block.now)) c.loop-d-test.true c.d-item.is c.in_err-declare_one.ensures c.loop-d.invariant)
+    rw (p.1, p.2) (ends_item c.in_err-declare_one.field-0.0 (declare c.args.dialect) declaration c.loop-d.known c.args.block.now c.loop-d.d-index c.d-item.result (each (declare c.args.dialect) c.args.known.now (map declaration c.args.block.now)) c.loop-d-test.true c.d-item.is c.in_err-declare_one.ensures c.loop-d.invariant)
 
 pub loop-d-preserved : goal.loop-d-preserved
-loop-d-preserved c = goes_on_item declare declaration c.loop-d.known c.declare_one.new.known c.args.block.now c.loop-d.d-index c.d-item.result (each declare c.args.known.now (map declaration c.args.block.now)) c.loop-d-test.true c.d-item.is c.in_ok-declare_one.ensures c.loop-d.invariant
+loop-d-preserved c = goes_on_item (declare c.args.dialect) declaration c.loop-d.known c.declare_one.new.known c.args.block.now c.loop-d.d-index c.d-item.result (each (declare c.args.dialect) c.args.known.now (map declaration c.args.block.now)) c.loop-d-test.true c.d-item.is c.in_ok-declare_one.ensures c.loop-d.invariant
 
 pub returns : goal.returns
-returns c = is_done declare declaration c.loop-d.known c.args.block.now c.loop-d.d-index (each declare c.args.known.now (map declaration c.args.block.now)) c.loop-d-test.false c.loop-d.invariant
+returns c = is_done (declare c.args.dialect) declaration c.loop-d.known c.args.block.now c.loop-d.d-index (each (declare c.args.dialect) c.args.known.now (map declaration c.args.block.now)) c.loop-d-test.false c.loop-d.invariant

@@ -4,4 +4,4 @@ use Rattle.il_declarations.specs.Walk.{declare, each}
 use Rattle.il_declarations.proofs.variables.declare_each.Given as goal
 
 abbrev pub invariant-loop-d : goal.invariant-loop-d
-invariant-loop-d l = each declare l.known (drop l.d-index (map declaration l.block)) ≡ each declare l.fn.known (map declaration l.block)
+invariant-loop-d l = each (declare l.dialect) l.known (drop l.d-index (map declaration l.block)) ≡ each (declare l.dialect) l.fn.known (map declaration l.block)

@@ -1,5 +1,5 @@
-use Rattle.std.proofs.Common.{◌≡◌, rules, w64, to_z, of_z}
-use Rattle.il_lister.proofs.Parts.{stop, then}
+use Rattle.std.proofs.Common.{◌≡◌, ◌∙◌, rules, w64, to_z, of_z}
+use Rattle.il_lister.proofs.Parts.{equally, stop, then}
 use Rattle.il_lister.proofs.literal.write_literal.Goals as goal
 
 pub returns-in_err-write_text-in-Int : goal.returns-in_err-write_text-in-Int
@@ -32,3 +32,9 @@ pub returns-in_ok-write_number-in-Time : goal.returns-in_ok-write_number-in-Time
 returns-in_ok-write_number-in-Time g c =
     let same : to_z w64 (of_z w64 c.from-in-Time.result) ≡ c.in-Time.milliseconds = search rules in
     rw c.in-Time.is (then c.in_ok-write_text-in-Time.ensures (then (rw same at c.in_ok-write_number-in-Time.ensures) c.write_text-in-Time-2.ensures))
+
+pub returns-in_err-write_text-in-Real : goal.returns-in_err-write_text-in-Real
+returns-in_err-write_text-in-Real g c = rw c.in-Real.is (stop _ c.from_residual-in_err-write_text-in-Real.ensures.0 c.in_err-write_text-in-Real.ensures)
+
+pub returns-in_ok-write_text-in-Real : goal.returns-in_ok-write_text-in-Real
+returns-in_ok-write_text-in-Real g c = rw c.in-Real.is (then c.in_ok-write_text-in-Real.ensures (equally (c.as_bytes.ensures.value ∙ c.as_str.ensures.value ∙ c.text-text.ensures) c.write_text-in-Real-2.ensures))

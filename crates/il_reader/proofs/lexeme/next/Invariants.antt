@@ -4,7 +4,7 @@ use Rattle.il_reader.proofs.lexeme.next.Given as goal
 
 abbrev pub invariant-loop-rest : goal.invariant-loop-rest
 invariant-loop-rest l = record {
-  same : tokens_of l.rest ≡ tokens_of l.bytes;
+  same : tokens_of l.dialect l.rest ≡ tokens_of l.dialect l.bytes;
   shrinks : length l.rest ≤ length l.bytes;
 }
 

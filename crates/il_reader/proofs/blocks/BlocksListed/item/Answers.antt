@@ -6,4 +6,4 @@ use Rattle.il_reader.proofs.Programs.{block_shrinks}
 use Rattle.il_reader.proofs.blocks.BlocksListed.item.Goals as goal
 
 pub returns-clause-moves : goal.returns-clause-moves
-returns-clause-moves c = moved c.block.result (λ x. (declarations x.0.items, tokens_of x.1.now)) block_at (tokens_of c.args.bytes.now) (block_shrinks (tokens_of c.args.bytes.now)) c.block.ensures
+returns-clause-moves c = moved c.block.result (λ x. (declarations x.0.items, tokens_of c.args.dialect x.1.now)) (block_at c.args.dialect) (tokens_of c.args.dialect c.args.bytes.now) (block_shrinks c.args.dialect (tokens_of c.args.dialect c.args.bytes.now)) c.block.ensures
