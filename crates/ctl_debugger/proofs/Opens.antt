@@ -7,6 +7,7 @@ use Rattle.il_model.specs.declared.value.Value.{Value}
 use Rattle.il_model.specs.declared.value.Value.TheVariants as values
 use Rattle.il_model.specs.declared.program.Place.{Place}
 use Rattle.il_model.specs.declared.fetched.Fetched.{Fetched}
+use Rattle.il_model.specs.Functions.{function_result}
 use Rattle.il_model.specs.Operators.{operation_result}
 use Rattle.il_model.specs.Resolved.{fetched_line}
 use Rattle.il_model.specs.declared.op.Op.{Op}
@@ -115,6 +116,7 @@ at_act Q now s ops.IntToDint m src args = at_value {X = Value} s s.cr _ (λ v. a
 at_act Q now s ops.DintToInt m src args = at_value {X = Value} s s.cr _ (λ v. at_takes Q s (to_int v))
 at_act Q now s ops.DintToLint m src args = at_value {X = Value} s s.cr _ (λ v. at_takes Q s (to_lint v))
 at_act Q now s ops.LintToDint m src args = at_value {X = Value} s s.cr _ (λ v. at_takes Q s (from_lint v))
+at_act Q now s (ops.Apply f) m src args = at_value {X = Value} s s.cr _ (λ v. at_takes Q s (function_result f v))
 at_act Q now s op m src args = at_combine Q s op m src
 
 stays : (Q : Program) (now : ℕ) (s : State) → IsStay s (step Q now s)

@@ -29,7 +29,7 @@ use Rattle.il_loader.specs.Images.{IsName, IsOperand, IsInstruction, IsWellForme
 use Rattle.il_loader.specs.declared.fault.LoadFault.{LoadFault}
 use Rattle.il_loader.specs.declared.fault.LoadFault.TheVariants.{Truncated}
 use Rattle.il_loader.specs.Reading.{items_from, counts_at, header_at, spelled_name_at, name_at, first_value_at, variable_at, instance_at, mark_at, constant_at, instruction_at, argument_at, word_at, bodies_at, tables_at}
-use Rattle.il_loader.specs.Judging.{image_of, judged_tables}
+use Rattle.il_loader.specs.Judging.{image_of, judged_tables, is_own_version}
 use Rattle.ctl_debugger.specs.Owned.{Owned, cold_owned}
 use Rattle.ctl_debugger.specs.Outcome.{on_image, owned_from, answers_from, answers_with, answers_of}
 use Rattle.ctl_model.specs.Scan.{next_count}
@@ -154,7 +154,7 @@ tens = 73 ∷ 76 ∷ 80 ∷ 67 ∷ 0 ∷ 1 ∷ 0 ∷ 1 ∷ 0 ∷ 0 ∷ 0 ∷ 0 �
     ∷ 1 ∷ 0 ∷ 64 ∷ 0 ∷ 9 ∷ 0 ∷ 128 ∷ 0 ∷ 2 ∷ 0 ∷ 64 ∷ 0 ∷ 2 ∷ 0 ∷ 20 ∷ 0 ∷ []
 
 tens_are : image_of tens ≡ Ok (counting 10)
-unfolding image_of judged_tables tables_at bodies_at header_at counts_at items_from spelled_name_at name_at first_value_at variable_at instance_at mark_at constant_at instruction_at argument_at word_at is_well_spelled spells look mnemonic_of
+unfolding image_of judged_tables is_own_version tables_at bodies_at header_at counts_at items_from spelled_name_at name_at first_value_at variable_at instance_at mark_at constant_at instruction_at argument_at word_at is_well_spelled spells look mnemonic_of
 tens_are = refl
 
 abbrev one_byte : List ℕ

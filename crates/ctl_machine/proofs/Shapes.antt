@@ -29,6 +29,12 @@ held_zipped [] (h ∷ hs) = refl
 held_zipped (d ∷ ds) [] = refl
 held_zipped (d ∷ ds) (h ∷ hs) = ap (λ b. same_held (held_of d) h && b) (held_zipped ds hs)
 
+pub held_no : (ds : List Deferred) (hs : List Held) (i : ℕ) (d : Deferred) (h : Held) → i < length ds → length ds ≡ length hs → d ≡ get_or ds i d → is_held d (get_or hs i h) ≡ false → zipped is_held ds hs ≡ false
+held_no ds hs i d h lt same e f = zipped_at is_held ds hs i d h lt same (ap (λ (x : Deferred). is_held x (get_or hs i h)) (sym e) ∙ f)
+
+pub held_yes : (ds : List Deferred) (hs : List Held) (i : ℕ) (d : Deferred) (h : Held) → i < length ds → length ds ≡ length hs → d ≡ get_or ds i d → is_held d (get_or hs i h) ≡ true → zipped is_held (take i ds) (take i hs) ≡ true → zipped is_held (take (i + 1) ds) (take (i + 1) hs) ≡ true
+held_yes ds hs i d h lt same e f so = zipped_next is_held ds hs i d h lt same (ap (λ (x : Deferred). is_held x (get_or hs i h)) (sym e) ∙ f) so
+
 none_left : (vs : List Value) → are_types vs [] ≡ (length vs == 0)
 none_left [] = refl
 none_left (v ∷ vs) = sym (eqb-suc-zero (length vs))

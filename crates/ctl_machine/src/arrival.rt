@@ -9,7 +9,7 @@ ghost use Rattle.ctl_model.specs.Suits.{held_of};
 ghost use Rattle.ctl_model.specs.Snapshots.{same_optional, same_held, all_held};
 
 use il_loader::Image;
-use il_model::{Deferred, Held, Ty, Types, Value, kind_of, row_of};
+use il_model::{Deferred, Held, Ty, Types, Value, kind_of, op_code, row_of};
 
 /// Goes past an instruction.
 fn pass(types: &mut Types, image: &Image, n: u16)
@@ -71,7 +71,9 @@ fn is_of(cr: Option<Value>, ty: Option<Ty>) -> bool
 fn is_held(deferred: Deferred, held: Held) -> bool
     ensures { result ≡ same_held (held_of deferred) held }
 {
-    deferred.op == held.op && deferred.negated == held.negated && has_type(deferred.cr, held.ty)
+    op_code(deferred.op) == op_code(held.op)
+        && deferred.negated == held.negated
+        && has_type(deferred.cr, held.ty)
 }
 
 fn all_of(deferred: &[Deferred], held: &[Held]) -> bool

@@ -22,6 +22,7 @@ use Rattle.il_model.specs.Locations.{area_of, clear_cells}
 use Rattle.il_model.specs.Typing.{Shape, Arrives}
 use Rattle.ctl_model.specs.Suits.{AreCells, HasValues, Suits, held_of}
 use Rattle.ctl_model.proofs.Instances.{all_cold}
+use Rattle.il_model.proofs.RealValues.{real_is}
 use Rattle.ctl_model.proofs.FirstValues.{firsts_first}
 
 pub some_of : (b : Bool) (x v : Value) → cond b (Some x) None ≡ Some v → x ≡ v
@@ -43,6 +44,7 @@ made_ty types.Int z v e = ap ty_of (sym (some_of (is_within 32768 z) (values.Int
 made_ty types.Dint z v e = ap ty_of (sym (some_of (is_within 2147483648 z) (values.Dint z) v e))
 made_ty types.Time z v e = ap ty_of (sym (some_of (is_within 2147483648 z) (values.Time z) v e))
 made_ty types.Lint z v e = ap ty_of (sym (some_of (is_within 9223372036854775808 z) (values.Lint z) v e))
+made_ty types.Real z v e = ap ty_of (sym (real_is z v e).1)
 
 first_ty : (loc : Option Loc) (t : Ty) (o : Option Value) (v : Value) → ((x : Value) → o ≡ Some x → ty_of x ≡ t) → option_and_then (if_passes (may_start_with loc)) o ≡ Some v → ty_of v ≡ t
 first_ty loc t None v typed e = absurd cc
@@ -67,11 +69,13 @@ written_are c (Bit a n) (values.Int z) is = is
 written_are c (Bit a n) (values.Dint z) is = is
 written_are c (Bit a n) (values.Time z) is = is
 written_are c (Bit a n) (values.Lint z) is = is
+written_are c (Bit a n) (values.Real r) is = is
 written_are c (Word a n) (values.Bool b) is = is
 written_are c (Word a n) (values.Int z) is = set_by (ltb n (length c.words)) c (record c { words = slice_set c.words n z }) is (record { bits = is.bits; words = length-set c.words n z ∙ is.words })
 written_are c (Word a n) (values.Dint z) is = is
 written_are c (Word a n) (values.Time z) is = is
 written_are c (Word a n) (values.Lint z) is = is
+written_are c (Word a n) (values.Real r) is = is
 
 chosen_are : (b : Bool) (c d : Cells) → AreCells c → AreCells d → AreCells (cond b d c)
 chosen_are true c d is at = at

@@ -27,6 +27,7 @@ use Rattle.il_model.specs.Program.{Program}
 use Rattle.il_model.specs.Resolved.{is_labelled}
 use Rattle.il_model.specs.Typing.{Shape, shape_on_arrival}
 use Rattle.il_model.specs.Checking.{shape_at, after_at, after_line, label_row, line_row, shape_after, ◌>>=◌, top_of}
+use Rattle.il_model.proofs.Lawful.{listed}
 use Rattle.il_model.proofs.RowTypes.{and_yes, same_type_is}
 use Rattle.il_model.proofs.BlockKinds.{kind_of_code-kind_code}
 use Rattle.il_model.proofs.TypedLines.{bind_ok, numbered_ok}
@@ -46,6 +47,7 @@ same_type_self types.Int = refl
 same_type_self types.Dint = refl
 same_type_self types.Time = refl
 same_type_self types.Lint = refl
+same_type_self types.Real = refl
 
 -- ---- values
 
@@ -141,40 +143,10 @@ pub optional_self : (a : Option Ty) → same_optional a a ≡ true
 optional_self None = refl
 optional_self (Some a) = same_type_self a
 
-op_again : (op : Op) → op_of (op_code op) ≡ Some op
-op_again ops.Empty = refl
-op_again ops.Ld = refl
-op_again ops.St = refl
-op_again ops.S = refl
-op_again ops.R = refl
-op_again ops.And = refl
-op_again ops.Or = refl
-op_again ops.Xor = refl
-op_again ops.Not = refl
-op_again ops.Add = refl
-op_again ops.Sub = refl
-op_again ops.Mul = refl
-op_again ops.Div = refl
-op_again ops.Mod = refl
-op_again ops.Gt = refl
-op_again ops.Ge = refl
-op_again ops.Eq = refl
-op_again ops.Ne = refl
-op_again ops.Le = refl
-op_again ops.Lt = refl
-op_again ops.Jmp = refl
-op_again ops.Cal = refl
-op_again ops.Ret = refl
-op_again ops.Close = refl
-op_again ops.IntToDint = refl
-op_again ops.DintToInt = refl
-op_again ops.DintToLint = refl
-op_again ops.LintToDint = refl
-
 op_same : (a b : Op) → nat_eq (op_code a) (op_code b) ≡ true → a ≡ b
 op_same a b h =
     let e : op_code a ≡ op_code b = eqb-true (op_code a) (op_code b) h in
-    let f : Some a ≡ Some b = sym (op_again a) ∙ ap op_of e ∙ op_again b in
+    let f : Some a ≡ Some b = sym (listed a) ∙ ap op_of e ∙ listed b in
     cc
 
 truth_of : (a b : Bool) → same_truth a b ≡ true → a ≡ b

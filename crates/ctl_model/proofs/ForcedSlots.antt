@@ -143,6 +143,7 @@ int_value (values.Int z) e = (z, refl)
 int_value (values.Dint z) e = absurd cc
 int_value (values.Time z) e = absurd cc
 int_value (values.Lint z) e = absurd cc
+int_value (values.Real r) e = absurd cc
 
 at_none : (n : ℕ) (v : Value) → any_loc n ≡ None → fits_location v (forcible_at n) ≡ true → ⊥
 at_none n v e h = let f = ap (λ o. fits_location v (option_and_then forcible o)) e in absurd cc

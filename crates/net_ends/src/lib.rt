@@ -20,7 +20,6 @@
 //! prefix of the frames that the other put, it gave a prefix of their messages, in order, and met no fault
 //! (`only_sent_is_given`).
 //!
-//! Tests (nothing rests on them alone): `link_rows` of `tests_threads` cuts a bad frame after a good one at each byte.
 //! By its code alone: that a `NonBlocking` counts a pause only where what is inside would block, and an end only where
 //! that ended or failed. That TCP gives a prefix of what was written is the premise.
 #![tactic(auto)]

@@ -18,8 +18,8 @@
 //!
 //! Tested (`link_rows` of `tests_threads`): that messages come in order, that a link is closed where it's cut and once
 //! all others are, and made anew, a thousand times with nobody receiving, that a connection which is over is made anew
-//! while the link at neither end is cut, that a message of another sender is dropped, that one without a frame is
-//! counted, that a stranger who was faster is refused.
+//! while the link at neither end is cut, that a message without a frame is counted, that a stranger who was faster is
+//! refused.
 //! In no clause: that a socket delivers, what a poll reports, that a send doesn't wait, that a receive reads no more
 //! than 1 MiB of one connection.
 #![tactic(auto)]

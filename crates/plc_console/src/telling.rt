@@ -38,6 +38,10 @@ fn value_text(alloc: Global, value: Value) -> Result<String, AllocError> {
         Value::Dint(number) => format!(in alloc; "{number}"),
         Value::Lint(number) => format!(in alloc; "{number}"),
         Value::Time(milliseconds) => format!(in alloc; "{milliseconds}"),
+        Value::Real(number) => {
+            let text = number.text();
+            String::from_str(alloc, text.as_str())
+        }
     }
 }
 

@@ -18,6 +18,7 @@ pub fn name_of(ty: Ty) -> &'static [u8]
         Ty::Dint => b"DINT",
         Ty::Time => b"TIME",
         Ty::Lint => b"LINT",
+        Ty::Real => b"REAL",
     }
 }
 

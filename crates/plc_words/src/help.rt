@@ -62,7 +62,7 @@ Answers:
                              as QWk=v
   held P                     the scan is held before instruction P
   stopped WHY P              the scan stopped at instruction P: overflow, zerodivisor or budget
-  value V                    a value, as TRUE, INT#5, DINT#5, LINT#5 or T#5ms
+  value V                    a value, as TRUE, INT#5, DINT#5, LINT#5, T#5ms or REAL#0.5
   done
   refused N                  1 no scan is held, 2 no such instruction, 3 no such name or it can't be
                              forced, 4 a value of another type, 5 there is no current result,
@@ -81,13 +81,14 @@ that it can't be.
 );
 
 pub(crate) const LISTING: &str =
-    "The listing is the image's program as text, in one spelling: VAR, a line for each variable and each
-instance, END_VAR, a line for each instruction. It assembles to the same image.
+    "The listing is the image's program as text, in one spelling: VAR, or VAR_GLOBAL where it has REAL or
+another word that only such a text has, a line for each variable and each instance, END_VAR, a line for
+each instruction. It assembles to the same image.
 
 A fault is one line on standard error; POS is a byte of the image, counted from 0:
   plc: load N                1 the image is cut short, 2 it doesn't begin as one, 3 it's of another
-                             version, or of version 2 without LINT, 4 it counts more than its limits,
-                             8 bytes stand after its end
+                             version, or of a later one than its program needs, 4 it counts more than
+                             its limits, 8 bytes stand after its end
   plc: load N at POS         5 a value that may not stand there, 6 a type that doesn't fit, 7 a jump
                              to no label
   plc: device read PATH      the file can't be read

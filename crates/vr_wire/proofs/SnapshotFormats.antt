@@ -22,6 +22,8 @@ use Rattle.vr_wire.specs.Fields.{bit_number, listed, counted, value_bytes, FitsV
 use Rattle.vr_wire.specs.Reading.{◌>>=◌, number_at, counted_at, fields_4, lawful, passed, read_by, stop_of, listed_at, value_at}
 use Rattle.vr_wire.specs.Snapshots.{phase_code, phase_stop, phase_performed, phase_bytes, result_bytes, deferred_bytes, scan_bytes, areas_bytes, block_bytes, force_bytes, tables_bytes, snapshot_bytes, rises_from, FitsPhase, FitsResult, may_open, IsOpening, FitsDeferred, IsAtRest, IsScan, FitsScan, FitsAreas, IsBlock, FitsBlock, FitsForce, IsTables, FitsTables, IsSnapshot, FitsSnapshot}
 use Rattle.vr_wire.specs.SnapshotReading.{phase_of, Placed, PhaseNumbers, numbers_at, placed_of, placed_at, result_readers, result_at, opening, truth_of, there, deferred_at, is_depth, deferred_list_at, OpenScan, is_at_rest, is_scan, any_scan_at, scan_at, Areas, areas_at, parts_of_at, block_at, force_at, breaks_at, slots_rise, forces_at, Tables, tables_at, snapshot_of, snapshot_at}
+use Rattle.il_model.proofs.Lawful.{listed as op_listed, op_below}
+use Rattle.il_model.proofs.OpCodes.{op_is}
 use Rattle.vr_wire.proofs.Values.{some_yes}
 use Rattle.vr_wire.proofs.Fields.{IsBytes, bind_some, some_is, Takes, Takes-then, IsInverse, number8, number16, number32, number64, took_0, took_1, took_2, took_3, took_4, again_1, again_2, again_3, again_4, lawful_inverse, tagged_takes, tagged_again}
 use Rattle.vr_wire.proofs.Formats.{listed_inverse, counted_inverse, bytes_inverse, passing, cells_inverse, value_inverse, slot_inverse, stop_sound, stop_again}
@@ -125,56 +127,6 @@ there_inverse = lawful_inverse {code = λ (v : Value). Some v} result_inverse (r
 
 -- ---- deferred operators
 
-abbrev AreCoded : ℕ → List Op → Type 0
-AreCoded k [] = Unit {0}
-AreCoded k (op ∷ list) = (op_code op ≡ k) × AreCoded (suc k) list
-
-coded_at : (k n : ℕ) (list : List Op) (op : Op) → AreCoded k list → slice_get list n ≡ Some op → op_code op ≡ k + n
-coded_at k n [] op coded e = absurd cc
-coded_at k zero (x ∷ list) op coded e = let is : x ≡ op = cc in sym (ap op_code is) ∙ (coded.0 ∙ omega arith)
-coded_at k (suc n) (x ∷ list) op coded e = coded_at (suc k) n list op coded.1 e ∙ omega arith
-
-ops_coded : AreCoded 0 op_list
-ops_coded = (refl, (refl, (refl, (refl, (refl, (refl, (refl, (refl, (refl, (refl, (refl, (refl, (refl, (refl, (refl, (refl, (refl, (refl, (refl, (refl, (refl, (refl, (refl, (refl, (refl, (refl, tt))))))))))))))))))))))))))
-
-op_by : (a b : Bool) (n : ℕ) (op : Op) → nat_eq n 28 ≡ a → nat_eq n 29 ≡ b → cond a (Some ops.DintToLint) (cond b (Some ops.LintToDint) (slice_get op_list n)) ≡ Some op → op_code op ≡ n
-op_by true b n op e f h = let is : ops.DintToLint ≡ op = cc in sym (ap op_code is) ∙ sym (eqb-true n 28 e)
-op_by false true n op e f h = let is : ops.LintToDint ≡ op = cc in sym (ap op_code is) ∙ sym (eqb-true n 29 f)
-op_by false false n op e f h = coded_at 0 n op_list op ops_coded h ∙ omega arith
-
-op_is : (n : ℕ) (op : Op) → op_of n ≡ Some op → op_code op ≡ n
-op_is n op e = op_by (nat_eq n 28) (nat_eq n 29) n op refl refl e
-
-op_again : (op : Op) → (op_code op < 2 ^ 8) × (op_of (op_code op) ≡ Some op)
-op_again ops.Empty = (lit< tt, refl)
-op_again ops.Ld = (lit< tt, refl)
-op_again ops.St = (lit< tt, refl)
-op_again ops.S = (lit< tt, refl)
-op_again ops.R = (lit< tt, refl)
-op_again ops.And = (lit< tt, refl)
-op_again ops.Or = (lit< tt, refl)
-op_again ops.Xor = (lit< tt, refl)
-op_again ops.Not = (lit< tt, refl)
-op_again ops.Add = (lit< tt, refl)
-op_again ops.Sub = (lit< tt, refl)
-op_again ops.Mul = (lit< tt, refl)
-op_again ops.Div = (lit< tt, refl)
-op_again ops.Mod = (lit< tt, refl)
-op_again ops.Gt = (lit< tt, refl)
-op_again ops.Ge = (lit< tt, refl)
-op_again ops.Eq = (lit< tt, refl)
-op_again ops.Ne = (lit< tt, refl)
-op_again ops.Le = (lit< tt, refl)
-op_again ops.Lt = (lit< tt, refl)
-op_again ops.Jmp = (lit< tt, refl)
-op_again ops.Cal = (lit< tt, refl)
-op_again ops.Ret = (lit< tt, refl)
-op_again ops.Close = (lit< tt, refl)
-op_again ops.IntToDint = (lit< tt, refl)
-op_again ops.DintToInt = (lit< tt, refl)
-op_again ops.DintToLint = (lit< tt, refl)
-op_again ops.LintToDint = (lit< tt, refl)
-
 opening_sound : (n : ℕ) (op : Op) → n < 2 ^ 8 → opening n ≡ Some op → (op_code op ≡ n) × (may_open op ≡ true)
 opening_sound n op lt e =
     let b = bind_some (op_of n) (passed may_open) op e in
@@ -182,7 +134,7 @@ opening_sound n op lt e =
     (ap op_code (sym y.1) ∙ op_is n b.0 b.1, ap may_open (sym y.1) ∙ y.0)
 
 opening_again : (op : Op) → may_open op ≡ true → opening (op_code op) ≡ Some op
-opening_again op opens = rw ((op_again op).1, opens) refl
+opening_again op opens = rw (op_listed op, opens) refl
 
 truth_sound : (n : ℕ) (b : Bool) → truth_of n ≡ Some b → bit_number b ≡ n
 truth_sound zero b e = let is : false ≡ b = cc in sym (ap bit_number is)
@@ -194,7 +146,7 @@ truth_again true = (lit< tt, refl)
 truth_again false = (lit< tt, refl)
 
 opening_inverse : IsInverse (λ op. to_be_bytes w8 (op_code op)) (λ op. may_open op ≡ true) (lawful opening (number_at w8))
-opening_inverse = lawful_inverse number8 (record { sound = opening_sound; complete = λ op opens. ((op_again op).0, opening_again op opens) })
+opening_inverse = lawful_inverse number8 (record { sound = opening_sound; complete = λ op opens. (op_below op, opening_again op opens) })
 
 truth_inverse : IsInverse (λ b. to_be_bytes w8 (bit_number b)) (λ b. Unit {0}) (lawful truth_of (number_at w8))
 truth_inverse = lawful_inverse number8 (record { sound = λ n b lt e. (truth_sound n b e, tt); complete = λ b fits. truth_again b })

@@ -27,9 +27,10 @@ counted w bytes = to_be_bytes w (length bytes) ++ bytes
 
 -- ---- values
 
--- the number of a LINT has 64 bits, that of any other type 32
+-- the number of a LINT or a REAL has 64 bits, that of any other type 32
 abbrev pub type_width : Ty → Width
 type_width types.Lint = w64
+type_width types.Real = w64
 type_width _ = w32
 
 abbrev pub number_bytes : Ty → ℤ → List ℕ
