@@ -193,6 +193,7 @@ fn type_name(ty: Ty) -> &'static str {
         Ty::Dint => "DINT",
         Ty::Time => "TIME",
         Ty::Lint => "LINT",
+        Ty::Real => "REAL",
     }
 }
 

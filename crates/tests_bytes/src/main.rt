@@ -9,6 +9,7 @@ mod clients;
 mod controllers;
 mod drivers;
 mod epochs;
+mod field_pages;
 mod fields;
 mod frames;
 mod group_files;

@@ -5,7 +5,7 @@ use crate::checkpoints;
 use crate::notation::{behind, bytes_of, cells_of, front, hexadecimal, number_of, unreadable};
 use il_model::{
     Answer, Command, ImageBytes, InImage, Literal, OutImage, Refusal, Slot, Snapshot, Stop, Value,
-    literal_from,
+    extended_literal_from,
 };
 use std::alloc::Global;
 use std::io;
@@ -25,7 +25,7 @@ fn party(text: &str) -> Option<Party> {
 }
 
 pub fn value(text: &str) -> Option<Value> {
-    match literal_from(text.as_bytes())? {
+    match extended_literal_from(text.as_bytes())? {
         Literal::Typed(value) => Some(value),
         Literal::Bare(_) => None,
     }

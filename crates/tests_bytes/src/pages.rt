@@ -18,7 +18,7 @@ use vr_model::{Standing, Status};
 const VERSION: &[u8] = b"1.2.3";
 
 /// The number behind this key; 0 where there's none.
-fn number(text: &str, key: &str) -> u64 {
+pub fn number(text: &str, key: &str) -> u64 {
     number_of(text, key).unwrap_or(0)
 }
 
@@ -150,7 +150,7 @@ fn point(alloc: Global, text: &str, key: &str, name: &[u8], place: Loc) -> io::R
 }
 
 /// Lines that were told as `told=down\1 at=17` says, if one was.
-fn notices(alloc: Global, text: &str) -> Result<Vec<Told>, AllocError> {
+pub fn notices(alloc: Global, text: &str) -> Result<Vec<Told>, AllocError> {
     let mut notices = Vec::new(alloc);
     if let Some(line) = behind(text, "told=") {
         notices.push(Told {
@@ -192,7 +192,7 @@ pub fn text(alloc: Global, title: &str, shown: &str) -> io::Result<String> {
 }
 
 /// A request, as `GET /state localhost:8080`, or without a host.
-fn request(alloc: Global, cell: &str) -> io::Result<Request<Bytes>> {
+pub fn request(alloc: Global, cell: &str) -> io::Result<Request<Bytes>> {
     let mut words = cell.split_whitespace();
     let (Some(method), Some(target)) = (words.next(), words.next()) else {
         return Err(unreadable());

@@ -4,7 +4,7 @@
 use crate::notation::{bytes_of, front, lines_of, plain, spread, told, told_bytes, unreadable};
 use crate::sessions::Exchange;
 use crate::{
-    blocks, controllers, drivers, epochs, fields, frames, group_files, groups, hellos,
+    blocks, controllers, drivers, epochs, field_pages, fields, frames, group_files, groups, hellos,
     machine_stores, pages, replicas,
 };
 use std::alloc::{AllocError, Global};
@@ -226,6 +226,7 @@ fn comes_out_of_machine(alloc: Global, file: &str, title: &str, cell: &str) -> i
         "stores.rows" => machine_stores::table(alloc, title, cell),
         "drivers.rows" => drivers::table(alloc, title, cell),
         "page.rows" => pages::table(alloc, title, cell),
+        "field_page.rows" => field_pages::table(alloc, title, cell),
         "cold_start.rows" => epochs::table(alloc, title, cell),
         _ => Err(unreadable()),
     }
@@ -236,7 +237,7 @@ fn said(alloc: Global, title: &str, body: &str) -> io::Result<String> {
     match title {
         "frame" => hexadecimals(alloc, body),
         "no frame" => told(alloc, "none"),
-        "metrics" => told(alloc, body),
+        "metrics" | "page" => told(alloc, body),
         "state" => Ok(joined(alloc, body)?),
         _ => Ok(plain(alloc, body)?),
     }
@@ -248,6 +249,7 @@ fn runs(alloc: Global, given: &Given<'_>, title: &str, body: &str) -> io::Result
         "frames.rows" => frames::frame(alloc, given.message),
         "fields.rows" => fields::run(alloc, given.field, body),
         "page.rows" => pages::text(alloc, title, given.message),
+        "field_page.rows" => field_pages::text(alloc, title, given.message),
         file => runs_of(alloc, file, front(title, " ").1, body),
     }
 }

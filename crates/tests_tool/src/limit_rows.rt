@@ -149,6 +149,74 @@ fn as_long_a_text_as_there_may_be_and_more(rt: HostRuntime) -> Result<(), Fail> 
     Ok(())
 }
 
+/// What is listed of a program that loads a literal with so many zeros between these two parts, or the line of its fault.
+fn literal(
+    alloc: Global,
+    before: &[u8],
+    zeros: usize,
+    after: &[u8],
+) -> Result<Vec<u8>, AllocError> {
+    let mut text = Vec::from_slice(alloc, b"VAR_GLOBAL END_VAR\nLD ")?;
+    text.extend_from_slice(before)?;
+    let digits = vec![in alloc; b'0'; zeros]?;
+    text.extend_from_slice(digits.as_slice())?;
+    text.extend_from_slice(after)?;
+    let mut image = Vec::new(alloc);
+    let (mut out, mut err) = (Vec::new(alloc), Vec::new(alloc));
+    let status = plc_tool::asm(
+        alloc,
+        text.as_slice(),
+        &mut Counted::new(&mut image),
+        &mut Counted::new(&mut out),
+        &mut Counted::new(&mut err),
+    );
+    Ok(if status == 0 {
+        list(alloc, image.as_slice())
+    } else {
+        err
+    })
+}
+
+#[test]
+fn every_digit_of_a_real_counts(rt: HostRuntime) -> Result<(), Fail> {
+    let alloc = rt.alloc();
+    let rows: [(&[u8], usize, &[u8], &[u8]); 6] = [
+        // half way between two values, and a little more
+        (
+            b"16777217.",
+            10_000,
+            b"",
+            b"VAR_GLOBAL\nEND_VAR\nLD REAL#16777216.0\n",
+        ),
+        (
+            b"16777217.",
+            9_999,
+            b"1",
+            b"VAR_GLOBAL\nEND_VAR\nLD REAL#16777218.0\n",
+        ),
+        // 10,000 digits before the point, and as many behind it that an exponent brings back
+        (
+            b"1",
+            9_999,
+            b".0E-9999",
+            b"VAR_GLOBAL\nEND_VAR\nLD REAL#1.0\n",
+        ),
+        (
+            b"0.",
+            9_999,
+            b"1E10000",
+            b"VAR_GLOBAL\nEND_VAR\nLD REAL#1.0\n",
+        ),
+        (b"", 10_000, b"1.5", b"VAR_GLOBAL\nEND_VAR\nLD REAL#1.5\n"),
+        (b"1", 9_999, b".0", b"plc: read 3 at 2:4\n"),
+    ];
+    for (n, (before, zeros, after, wanted)) in rows.iter().enumerate() {
+        let listing = literal(alloc, before, *zeros, after)?;
+        assert_eq!(rt; listing.as_slice(), *wanted, "in row {n}");
+    }
+    Ok(())
+}
+
 /// An image of this header and so many RET.
 fn returns(alloc: Global, header: &[u8; 16], count: usize) -> Result<Vec<u8>, AllocError> {
     let mut image = Vec::from_slice(alloc, header)?;
