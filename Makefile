@@ -1,4 +1,4 @@
-# make demo [EXAMPLE=crossing|bottles|motor|tank|pumps|interlock]   runs plc on a real program, and prints a line for each scan
+# make demo [EXAMPLE=crossing|bottles|motor|tank|pumps|interlock|meter|cistern|furnace]   runs plc on a real program, and prints a line for each scan
 # make demo IL=FILE.il COMMANDS=FILE.json     the same for a program of your own
 # make demo EXAMPLE=bottles SESSION=_session  a session of the debugger with that program
 # make standby [SCHEDULE=crash|failover|lost]  three replicas of the motor: one crashes between two scans and comes back

@@ -1,5 +1,5 @@
 #!/usr/bin/env python3
-"""programs.py NAME [--loops L]: prints one of the programs arith, logic, jumps, blocks, dints, lints.
+"""programs.py NAME [--loops L]: prints one of the programs arith, logic, jumps, blocks, dints, lints, reals.
 
 Each is made by a generator of fixed seed, and none stops: sums are kept small by MOD. The body runs L times in each scan.
 """
@@ -10,12 +10,12 @@ PERIOD = 7  # ms from one scan to the next
 COMPARISONS = ['GT', 'GE', 'LT', 'LE', 'EQ', 'NE']
 
 
-def program(declarations, body, loops):
+def program(declarations, body, loops, opening='VAR'):
     if loops > 1:
         declarations = declarations + ['ROUNDS : INT;']
         again = ['LD ROUNDS', 'ADD 1', 'ST ROUNDS', f'LT {loops}', 'JMPC AGAIN']
         body = ['LD 0', 'ST ROUNDS', 'AGAIN:'] + body + again
-    return '\n'.join(['VAR', *declarations, 'END_VAR', *body]) + '\n'
+    return '\n'.join([opening, *declarations, 'END_VAR', *body]) + '\n'
 
 
 def one_of(rng, letter, count):
@@ -182,7 +182,30 @@ def lints(loops=1):
     return sums('LINT', 'LINT_TO_DINT', loops)
 
 
-PROGRAMS = {'arith': arith, 'logic': logic, 'jumps': jumps, 'blocks': blocks, 'dints': dints, 'lints': lints}
+def real_sum(rng):
+    """At most 72, where the variables are: (72 + 72) * 0.375 + 72 is 126, half of that 63, and up to 9 is added."""
+    return [f'LD {one_of(rng, "R", 16)}', f'SUB {one_of(rng, "R", 16)}', f'MUL {rng.choice(["0.25", "-0.375", "0.1"])}',
+            f'ADD {one_of(rng, "R", 16)}', f'DIV {rng.choice(["3.0", "-2.5", "2.125"])}', f'ADD {rng.randrange(-90, 90) / 10}',
+            f'ST {one_of(rng, "R", 16)}']
+
+
+def real_comparison(rng):
+    return [f'LD {one_of(rng, "R", 16)}', f'{rng.choice(COMPARISONS)} {one_of(rng, "R", 16)}', f'ST {one_of(rng, "B", 8)}']
+
+
+def reals(loops=1, count=1000):
+    """REAL: sums, products, quotients and comparisons; four results, times 400 and rounded, are put out."""
+    rng = random.Random(6)
+    declarations = [f'R{k} : REAL := {k * 1.5 - 9};' for k in range(16)] + [f'B{k} : BOOL;' for k in range(8)]
+    outputs = [it for k in range(4) for it in (f'LD R{k}', 'MUL 400.0', 'REAL_TO_INT', f'ST %QW{k}', f'LD B{k}', f'ST %QX0.{k}')]
+    body = []
+    while len(body) < count - len(outputs):
+        body += rng.choice([real_sum, real_sum, real_sum, real_comparison])(rng)
+    return program(declarations, body + outputs, loops, 'VAR_GLOBAL')
+
+
+PROGRAMS = {'arith': arith, 'logic': logic, 'jumps': jumps, 'blocks': blocks, 'dints': dints, 'lints': lints,
+            'reals': reals}
 # What the interpreter doesn't know, beside the program with as many instructions and the same answers.
 TWINS = {'lints': 'dints'}
 

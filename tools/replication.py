@@ -436,7 +436,7 @@ def is_event(it, names):
 def declared(source):
     """The names that a text declares, in capitals: read off its VAR blocks, so of a good text alone."""
     bare = re.sub(r'(?s)\(\*.*?\*\)', ' ', source)
-    blocks = re.findall(r'(?is)(?<![\w.])VAR\b(.*?)\bEND_VAR\b', bare)
+    blocks = re.findall(r'(?is)(?<![\w.])VAR(?:_GLOBAL)?\b(.*?)\bEND_VAR\b', bare)
     return {name.strip().upper() for block in blocks for item in block.split(';')
             for name in re.split(r'(?i)\bAT\b', item.partition(':')[0])[0].split(',') if name.strip()}
 
