@@ -21,7 +21,7 @@ use Rattle.il_model.specs.Resolved.{target_of, instance_in, kind_in, called_kind
 use Rattle.il_model.specs.Marks.{Mark, marks_from, words_in, address_of}
 use Rattle.il_model.specs.Constants.{same_value, operand_literal, joined_constants, constants_from, operands_in, operands_of}
 use Rattle.il_model.specs.CodedOperands.{code_of}
-use Rattle.il_model.specs.Image.{number_or_unused, coded_operand, operand_code, coded_word, op_code, modifier_code, side_code, field_number_code, word_bytes, argument_bytes, instruction_bytes, may_declare, may_keep, may_write, version_with, header_bytes, variable_bytes, instance_bytes, mark_bytes, constant_bytes, spelling}
+use Rattle.il_model.specs.Image.{number_or_unused, coded_operand, operand_code, coded_word, op_code, modifier_code, side_code, field_number_code, word_bytes, argument_bytes, instruction_bytes, may_declare, may_instantiate, may_keep, may_write, version_with, header_bytes, variable_bytes, instance_bytes, mark_bytes, constant_bytes, spelling}
 use Rattle.il_model.specs.Settled.{settled_argument, settled_line, typed_program_of}
 use Rattle.il_model.proofs.ArgumentFaults.{settled_argument_none}
 use Rattle.il_model.proofs.SettledPrograms.{Alike, literal_is, settled_none, called_settled, is_settling, settling_alike, target_alike, typed_program}
@@ -131,29 +131,31 @@ parts version variables instances marks constants count words =
     ++ (flat_map (variable_bytes version) variables ++ (flat_map instance_bytes instances ++ (flat_map mark_bytes marks ++ (flat_map (constant_bytes version) constants ++ words))))
 
 -- the first version that suffices, where the first two may have the instructions or not
-abbrev first_sufficing : List Variable → List Value → Bool → Bool → Version
-first_sufficing vs cs one two = if list_all (may_declare versions.One) vs && (list_all (may_keep versions.One) cs && one) then versions.One
-    else (if list_all (may_declare versions.Two) vs && (list_all (may_keep versions.Two) cs && two) then versions.Two else versions.Three)
+abbrev first_sufficing : List Variable → List Instance → List Value → Bool → Bool → Version
+first_sufficing vs xs cs one two =
+    if list_all (may_declare versions.One) vs && (list_all (may_instantiate versions.One) xs && (list_all (may_keep versions.One) cs && one)) then versions.One
+    else (if list_all (may_declare versions.Two) vs && (list_all (may_instantiate versions.Two) xs && (list_all (may_keep versions.Two) cs && two)) then versions.Two else versions.Three)
 
 -- a program and its typed program have one version
-version_alike : (P Q : Program) (constants : List Value) → Alike P Q → AreSettledLines P.code Q.code → version_with P.variables constants P.code ≡ version_with Q.variables constants Q.code
+version_alike : (P Q : Program) (constants : List Value) → Alike P Q → AreSettledLines P.code Q.code → version_with P.variables P.instances constants P.code ≡ version_with Q.variables Q.instances constants Q.code
 version_alike P Q constants a are =
-    ap (λ (vs : List Variable). version_with vs constants P.code) (sym a.variables)
-    ∙ ap (λ (b : Bool). first_sufficing Q.variables constants b (list_all (may_write versions.Two) P.code)) (same_writes versions.One P.code Q.code are)
-    ∙ ap (λ (b : Bool). first_sufficing Q.variables constants (list_all (may_write versions.One) Q.code) b) (same_writes versions.Two P.code Q.code are)
+    ap (λ (vs : List Variable). version_with vs P.instances constants P.code) (sym a.variables)
+    ∙ ap (λ (xs : List Instance). version_with Q.variables xs constants P.code) (sym a.instances)
+    ∙ ap (λ (b : Bool). first_sufficing Q.variables Q.instances constants b (list_all (may_write versions.Two) P.code)) (same_writes versions.One P.code Q.code are)
+    ∙ ap (λ (b : Bool). first_sufficing Q.variables Q.instances constants (list_all (may_write versions.One) Q.code) b) (same_writes versions.Two P.code Q.code are)
 
 spelled : (P Q : Program) → Alike P Q → AreSettledLines P.code Q.code → settled_bytes P (constants_in [] (all_literals P.code (literals_of Q.code))) (literals_of Q.code) ≡ spelling Q
 spelled P Q a are =
     let cs : List Value = constants_in [] (all_literals P.code (literals_of Q.code)) in
     let words = settled_words P cs P.code (literals_of Q.code) in
-    let version = version_with P.variables cs P.code in
+    let version = version_with P.variables P.instances cs P.code in
     ap (λ (vs : List Variable). parts version vs P.instances (marks_from 0 P.code) cs (words_in P.code) words) (sym a.variables)
     ∙ ap (λ (xs : List Instance). parts version Q.variables xs (marks_from 0 P.code) cs (words_in P.code) words) (sym a.instances)
     ∙ ap (λ (ms : List Mark). parts version Q.variables Q.instances ms cs (words_in P.code) words) (same_marks 0 P.code Q.code are)
     ∙ ap (λ (k : ℕ). parts version Q.variables Q.instances (marks_from 0 Q.code) cs k words) (same_words P.code Q.code are)
     ∙ ap (parts version Q.variables Q.instances (marks_from 0 Q.code) cs (words_in Q.code)) (same_code_words P Q cs P.code Q.code (record { alike = a; address = λ n. same_address P.code Q.code n are }) are)
     ∙ ap (λ (v : Version). parts v Q.variables Q.instances (marks_from 0 Q.code) cs (words_in Q.code) (flat_map (instruction_bytes Q cs) Q.code)) (version_alike P Q cs a are)
-    ∙ ap (λ (ks : List Value). parts (version_with Q.variables ks Q.code) Q.variables Q.instances (marks_from 0 Q.code) ks (words_in Q.code) (flat_map (instruction_bytes Q ks) Q.code)) (same_constants P.code Q.code are)
+    ∙ ap (λ (ks : List Value). parts (version_with Q.variables Q.instances ks Q.code) Q.variables Q.instances (marks_from 0 Q.code) ks (words_in Q.code) (flat_map (instruction_bytes Q ks) Q.code)) (same_constants P.code Q.code are)
 
 -- the literals of a typed program tell its spelling
 pub settled_spelling : (P Q : Program) (literals : List (Option Value)) → typed_program_of P ≡ Ok Q → literals ≡ literals_of Q.code → settled_bytes P (constants_in [] (all_literals P.code literals)) literals ≡ spelling Q

@@ -1,18 +1,30 @@
 -- The instructions of a program and of its typed program, side by side.
 use Rattle.std.proofs.Common.{◌≡◌, ℕ, zero, suc, ◌+◌, ◌≤◌, List, [], ◌∷◌, length, Option, Some, Ok, refl, sym, ap, ◌∙◌, arith}
-use Rattle.std.specs.Prelude.{slice_get, Bool, ◌&&◌}
+use Rattle.std.specs.Prelude.{slice_get, Bool, ◌&&◌, ℤ, None, map}
 use Rattle.std.specs.List.{AllByRecursion, list_all}
 use Rattle.std.specs.Option.{option_map}
 use Rattle.std.proofs.lemmas.List.{length-map}
 use Rattle.std.proofs.lemmas.Option.{slice_get_within}
 use Rattle.il_model.specs.declared.value.Ty.{Ty}
+use Rattle.il_model.specs.declared.value.Value.{Value}
+use Rattle.il_model.specs.declared.op.Op.{Op}
+use Rattle.il_model.specs.declared.op.Modifier.{Modifier}
+use Rattle.il_model.specs.declared.kind.Field.{Field}
+use Rattle.il_model.specs.declared.program.Operand.{Operand}
+use Rattle.il_model.specs.declared.program.Operand.TheVariants as operands
+use Rattle.il_model.specs.declared.program.Side.{Side}
+use Rattle.il_model.specs.declared.program.Side.TheVariants as sides
+use Rattle.il_model.specs.declared.program.Argument.{Argument}
 use Rattle.il_model.specs.declared.program.Instr.{Instr}
 use Rattle.il_model.specs.Program.{Program}
 use Rattle.il_model.specs.Checking.{shape_at, typing_end}
 use Rattle.il_model.specs.Marks.{with_mark, marks_from, word_count, words_in, address_of}
 use Rattle.il_model.specs.declared.codes.Version.{Version}
-use Rattle.il_model.specs.Image.{may_write}
-use Rattle.il_model.specs.Settled.{settled_argument, settled_line, typed_program_of, IsTypedProgramOf}
+use Rattle.il_model.specs.Image.{op_version, operand_version, may_have, may_name, may_write}
+use Rattle.il_model.specs.Kinds.{any_field, field_type}
+use Rattle.il_model.specs.Values.{typed_value}
+use Rattle.il_model.proofs.Versions.{all_passed}
+use Rattle.il_model.specs.Settled.{settled_as, settled_number, settled_operand, settled_passing, settled_argument, settled_line, typed_program_of, IsTypedProgramOf}
 use Rattle.il_model.proofs.SettledPrograms.{some_is, typed_program}
 use Rattle.il_model.proofs.TypedLines.{bind_ok, ok_before}
 use Rattle.il_model.proofs.Calls.{IsTypedLine, typed_lines, words_few}
@@ -73,14 +85,55 @@ same_marks n (p ∷ ps) (q ∷ qs) are =
     ∙ ap (with_mark n p.label) (same_marks (n + word_count q) ps qs are.1)
     ∙ ap (λ (line : Instr). with_mark n line.label (marks_from (n + word_count q) qs)) (sym are.0.1)
 
--- ---- the same operators
+-- ---- the same operators and locations
+
+-- a number names no location
+same_as : (z : ℤ) (o : Option Value) → operand_version (settled_as z o) ≡ operand_version (operands.Bare z)
+same_as z (Some v) = refl
+same_as z None = refl
+
+same_operand : (cr : Option Ty) (op : Op) (m : Modifier) (x : Operand) → operand_version (settled_operand cr op m x) ≡ operand_version x
+same_operand cr op m (operands.Bare z) = same_as z (settled_number cr op m.opens z)
+same_operand cr op m operands.Absent = refl
+same_operand cr op m (operands.Literal v) = refl
+same_operand cr op m (operands.Variable name) = refl
+same_operand cr op m (operands.Direct loc) = refl
+same_operand cr op m (operands.Label name) = refl
+same_operand cr op m (operands.Field name field) = refl
+same_operand cr op m (operands.Instance name) = refl
+
+same_passing : (side : Side) (field : Option Field) (x : Operand) → operand_version (settled_passing side field x) ≡ operand_version x
+same_passing sides.Input (Some field) (operands.Bare z) = same_as z (typed_value (field_type field) z)
+same_passing sides.Input (Some field) operands.Absent = refl
+same_passing sides.Input (Some field) (operands.Literal v) = refl
+same_passing sides.Input (Some field) (operands.Variable name) = refl
+same_passing sides.Input (Some field) (operands.Direct loc) = refl
+same_passing sides.Input (Some field) (operands.Label name) = refl
+same_passing sides.Input (Some field) (operands.Field name f) = refl
+same_passing sides.Input (Some field) (operands.Instance name) = refl
+same_passing sides.Input None x = refl
+same_passing sides.Output field x = refl
+
+same_passings : (version : Version) (xs : List Argument) → list_all (λ (a : Argument). may_name version a.operand) (map settled_argument xs) ≡ list_all (λ (a : Argument). may_name version a.operand) xs
+same_passings version [] = refl
+same_passings version (a ∷ xs) =
+    ap (λ (v : Version). may_have version v && list_all (λ (b : Argument). may_name version b.operand) (map settled_argument xs)) (same_passing a.side (any_field a.field) a.operand)
+    ∙ ap (λ (b : Bool). may_name version a.operand && b) (same_passings version xs)
+
+same_arguments : (version : Version) (xs : List Argument) → list_all (may_name version) (map (λ (a : Argument). a.operand) (map settled_argument xs)) ≡ list_all (may_name version) (map (λ (a : Argument). a.operand) xs)
+same_arguments version xs = all_passed version (map settled_argument xs) ∙ same_passings version xs ∙ sym (all_passed version xs)
+
+same_line : (version : Version) (cr : Option Ty) (line : Instr) → may_write version (settled_line cr line) ≡ may_write version line
+same_line version cr line =
+    ap (λ (v : Version). may_have version (op_version line.op) && (may_have version v && list_all (may_name version) (map (λ (a : Argument). a.operand) (map settled_argument line.arguments)))) (same_operand cr line.op line.modifier line.operand)
+    ∙ ap (λ (b : Bool). may_have version (op_version line.op) && (may_name version line.operand && b)) (same_arguments version line.arguments)
 
 pub same_writes : (version : Version) (ps qs : List Instr) → AreSettledLines ps qs → list_all (may_write version) ps ≡ list_all (may_write version) qs
 same_writes version [] [] are = refl
 same_writes version [] (q ∷ qs) are = absurd are
 same_writes version (p ∷ ps) [] are = absurd are
 same_writes version (p ∷ ps) (q ∷ qs) are =
-    ap (λ (b : Bool). b && list_all (may_write version) ps) (sym (ap (may_write version) are.0.1)) ∙ ap (λ (b : Bool). may_write version q && b) (same_writes version ps qs are.1)
+    ap (λ (b : Bool). b && list_all (may_write version) ps) (sym (ap (may_write version) are.0.1 ∙ same_line version are.0.0 p)) ∙ ap (λ (b : Bool). may_write version q && b) (same_writes version ps qs are.1)
 
 -- ---- few arguments
 

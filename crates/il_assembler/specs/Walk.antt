@@ -70,7 +70,7 @@ settled_words P constants (line ∷ code) (literal ∷ literals) =
 
 abbrev pub settled_bytes : Program → List Value → List (Option Value) → List ℕ
 settled_bytes P constants literals =
-    let version = version_with P.variables constants P.code in
+    let version = version_with P.variables P.instances constants P.code in
     let marks = marks_from 0 P.code in
     header_bytes version (length P.variables) (length P.instances) (length marks) (length constants) (words_in P.code)
     ++ (flat_map (variable_bytes version) P.variables

@@ -22,7 +22,7 @@ use crate::constants::constants_of;
 use il_model::{
     Argument, BlockKind, CodedOperand, Constants, FIRST_CONSTANT, IndexedProgram, Instance, Instr,
     MAGIC, MOST_INSTRUCTIONS, Name, Operand, Place, Value, Variable, Version, argument_literal,
-    location_code, modifier_code, op_code, side_code, type_code, version_with,
+    declared_code, location_code, modifier_code, op_code, side_code, type_code, version_with,
 };
 use std::alloc::{AllocError, Global};
 
@@ -93,7 +93,7 @@ fn put_variable(out: &mut Vec<u8>, version: Version, v: &Variable) -> Result<(),
     ensures { OnOk result (out.new.items ≡ out.old.items ++ variable_bytes version v.now) }
 {
     put_name(out, &v.name)?;
-    put_u8(out, type_code(v.ty))?;
+    put_u8(out, declared_code(v.retained, type_code(v.ty)))?;
     put_u16(out, location_code(v.location))?;
     put_number(out, version, v.initial)
 }
@@ -120,7 +120,7 @@ fn put_instance(out: &mut Vec<u8>, x: &Instance) -> Result<(), AllocError>
     ensures { OnOk result (out.new.items ≡ out.old.items ++ instance_bytes x.now) }
 {
     put_name(out, &x.name)?;
-    put_u8(out, usize::from(x.kind.code()))
+    put_u8(out, declared_code(x.retained, usize::from(x.kind.code())))
 }
 
 fn target_address(addresses: &[usize], target: Option<u16>) -> usize
@@ -405,7 +405,7 @@ pub fn encode(
     let constants = constants_of(alloc, code, literals)?;
     let (addresses, words) = addresses_of(alloc, code)?;
     let addresses = addresses.as_slice();
-    let version = version_with(variables, constants.values(), code);
+    let version = version_with(variables, instances, constants.values(), code);
     let mut out = Vec::new(alloc);
     out.extend_from_slice(&MAGIC)?;
     put_u16(&mut out, version.number() as usize)?;

@@ -1,5 +1,5 @@
 -- What more bytes change: what was read stays, what was cut off may go on, and every other fault stays a fault.
-use Rattle.std.proofs.Common.{◌≡◌, ℕ, zero, suc, ◌+◌, ◌-◌, ◌<◌, ◌≤◌, Bool, true, false, cond, ltb, List, [], ◌∷◌, ◌++◌, length, take, drop, Option, Some, None, Result, Ok, Err, refl, sym, ap, subst, ◌∙◌, arith, inl, inr}
+use Rattle.std.proofs.Common.{◌≡◌, ℕ, zero, suc, ◌-◌, ◌<◌, ◌≤◌, Bool, true, false, cond, ltb, List, [], ◌∷◌, ◌++◌, length, take, drop, Option, Some, None, Result, Ok, Err, refl, sym, ap, subst, ◌∙◌, arith, inl, inr}
 use Rattle.std.specs.Prelude.{◌⊎◌, nat_le, nat_eq}
 use Rattle.std.specs.Int.{Width, w8, w16, w32, byte_len, from_be_bytes}
 use Rattle.std.proofs.lemmas.Bool.{ltb-false, le-ltb, ne_eqb}
@@ -15,14 +15,14 @@ use Rattle.il_model.specs.Program.{Program, Declarations}
 use Rattle.il_model.specs.Marks.{Mark}
 use Rattle.il_model.specs.Image.{magic, number_width, spelling}
 use Rattle.il_model.specs.Kinds.{kind_of_code}
-use Rattle.il_model.specs.Codes.{is_new_name, is_new_instance, is_new_label, length_of, type_in, version_numbered, coded_location, initial_of, constant_of, op_in, letters_of, word_operand, side_of, argument_number, argument_operand}
+use Rattle.il_model.specs.Codes.{is_new_name, is_new_instance, is_new_label, length_of, type_in, retained_in, version_numbered, coded_location_in, initial_of, constant_of, op_in, letters_of, word_operand_in, side_of, argument_number, argument_operand_in}
 use Rattle.il_model.specs.Fits.{IsImage}
 use Rattle.il_loader.specs.declared.counts.Counts.{Counts}
 use Rattle.il_loader.specs.declared.fault.LoadFault.{LoadFault}
 use Rattle.il_loader.specs.declared.fault.LoadFault.TheVariants.{Truncated, BadMagic, BadCount, BadWord, Trailing}
 use Rattle.il_loader.specs.declared.fault.LoadError.{LoadError}
 use Rattle.il_loader.specs.Tables.{Tables}
-use Rattle.il_loader.specs.Reading.{◌>>=◌, Gives, number_at, signed_at, lawful, agrees, items_from, count_at, counts_at, lawful_version, header_at, spelled_name_at, name_at, first_value_at, variable_at, instance_at, mark_at, constant_at, instruction_at, argument_at, word_by, word_at, next_word, ended, bodies_at, tables_at}
+use Rattle.il_loader.specs.Reading.{◌>>=◌, Gives, number_at, signed_at, lawful, agrees, items_from, count_at, counts_at, lawful_version, header_at, spelled_name_at, name_at, first_value_at, declared_at, variable_at, instance_at, mark_at, constant_at, instruction_at, argument_at, word_by, word_at, next_word, ended, bodies_at, tables_at}
 use Rattle.il_loader.specs.Judging.{judged_tables, image_of}
 use Rattle.il_loader.proofs.Fields.{bind_ok}
 use Rattle.il_loader.proofs.Images.{image_again}
@@ -148,26 +148,32 @@ first_value_grows version p q type loc bytes more =
     binds (grown more) _ _ _ _ _ (signed_grows version bytes more) (λ number.
     binds id_at _ _ _ _ _ (lawful_grows p q (initial_of type loc number.0)) (λ value. refl))
 
+declared_grows : (version : Version) (p q : ℕ) (bytes more : List ℕ) → Grows (grown more) (declared_at version p bytes) (declared_at version q (bytes ++ more))
+unfolding declared_at
+declared_grows version p q bytes more =
+    binds (grown more) _ _ _ _ _ (number_grows w8 bytes more) (λ code.
+    binds id_at _ _ _ _ _ (lawful_grows p q (retained_in version code.0)) (λ retained. refl))
+
 variable_grows : (version : Version) (total full : ℕ) (more : List ℕ) (seen : List Variable) (bytes : List ℕ) → Grows (grown more) (variable_at version total seen bytes) (variable_at version full seen (bytes ++ more))
 unfolding variable_at
 variable_grows version total full more seen bytes =
     let p = total - length bytes in
     let q = full - length (bytes ++ more) in
     binds (grown more) _ _ _ _ _ (name_grows p q (is_new_name seen) bytes more) (λ name.
-    binds (grown more) _ _ _ _ _ (number_grows w8 name.1 more) (λ code.
-    binds id_at _ _ _ _ _ (lawful_grows p q (type_in version code.0)) (λ type.
+    binds (grown more) _ _ _ _ _ (declared_grows version p q name.1 more) (λ code.
+    binds id_at _ _ _ _ _ (lawful_grows p q (type_in version code.0.1)) (λ type.
     binds (grown more) _ _ _ _ _ (number_grows w16 code.1 more) (λ place.
-    binds id_at _ _ _ _ _ (lawful_grows p q (coded_location seen type place.0)) (λ loc.
+    binds id_at _ _ _ _ _ (lawful_grows p q (coded_location_in version seen type place.0)) (λ loc.
     binds (grown more) _ _ _ _ _ (first_value_grows version p q type loc place.1 more) (λ first. refl))))))
 
-instance_grows : (total full : ℕ) (vs : List Variable) (more : List ℕ) (seen : List Instance) (bytes : List ℕ) → Grows (grown more) (instance_at total vs seen bytes) (instance_at full vs seen (bytes ++ more))
+instance_grows : (version : Version) (total full : ℕ) (vs : List Variable) (more : List ℕ) (seen : List Instance) (bytes : List ℕ) → Grows (grown more) (instance_at version total vs seen bytes) (instance_at version full vs seen (bytes ++ more))
 unfolding instance_at
-instance_grows total full vs more seen bytes =
+instance_grows version total full vs more seen bytes =
     let p = total - length bytes in
     let q = full - length (bytes ++ more) in
     binds (grown more) _ _ _ _ _ (name_grows p q (is_new_instance vs seen) bytes more) (λ name.
-    binds (grown more) _ _ _ _ _ (number_grows w8 name.1 more) (λ code.
-    binds id_at _ _ _ _ _ (lawful_grows p q (kind_of_code code.0)) (λ kind. refl)))
+    binds (grown more) _ _ _ _ _ (declared_grows version p q name.1 more) (λ code.
+    binds id_at _ _ _ _ _ (lawful_grows p q (kind_of_code code.0.1)) (λ kind. refl)))
 
 mark_grows : (total full : ℕ) (more : List ℕ) (seen : List Mark) (bytes : List ℕ) → Grows (grown more) (mark_at total seen bytes) (mark_at full seen (bytes ++ more))
 unfolding mark_at
@@ -192,19 +198,19 @@ instruction_grows version p q ds marks cs n code bytes more =
     binds (grown more) _ _ _ _ _ (number_grows w8 bytes more) (λ letters.
     binds id_at _ _ _ _ _ (lawful_grows p q (letters_of op letters.0)) (λ m.
     binds (grown more) _ _ _ _ _ (number_grows w16 letters.1 more) (λ slot.
-    binds id_at _ _ _ _ _ (lawful_grows p q (word_operand ds marks cs op m slot.0)) (λ operand. refl)))))
+    binds id_at _ _ _ _ _ (lawful_grows p q (word_operand_in version ds marks cs op m slot.0)) (λ operand. refl)))))
 
-argument_grows : (p q : ℕ) (ds : Declarations) (cs : List Value) (side : Side) (bytes more : List ℕ) → Grows (grown more) (argument_at p ds cs side bytes) (argument_at q ds cs side (bytes ++ more))
+argument_grows : (version : Version) (p q : ℕ) (ds : Declarations) (cs : List Value) (side : Side) (bytes more : List ℕ) → Grows (grown more) (argument_at version p ds cs side bytes) (argument_at version q ds cs side (bytes ++ more))
 unfolding argument_at
-argument_grows p q ds cs side bytes more =
+argument_grows version p q ds cs side bytes more =
     binds (grown more) _ _ _ _ _ (number_grows w8 bytes more) (λ number.
     binds id_at _ _ _ _ _ (lawful_grows p q (argument_number number.0)) (λ field.
     binds (grown more) _ _ _ _ _ (number_grows w16 number.1 more) (λ slot.
-    binds id_at _ _ _ _ _ (lawful_grows p q (argument_operand ds cs slot.0)) (λ operand. refl))))
+    binds id_at _ _ _ _ _ (lawful_grows p q (argument_operand_in version ds cs slot.0)) (λ operand. refl))))
 
 by_side : (version : Version) (p q : ℕ) (ds : Declarations) (marks : List Mark) (cs : List Value) (n code : ℕ) (side : Option Side) (bytes more : List ℕ) → Grows (grown more) (word_by version p ds marks cs n code side bytes) (word_by version q ds marks cs n code side (bytes ++ more))
 by_side version p q ds marks cs n code None bytes more = instruction_grows version p q ds marks cs n code bytes more
-by_side version p q ds marks cs n code (Some side) bytes more = argument_grows p q ds cs side bytes more
+by_side version p q ds marks cs n code (Some side) bytes more = argument_grows version p q ds cs side bytes more
 
 word_grows : (version : Version) (p q : ℕ) (ds : Declarations) (marks : List Mark) (cs : List Value) (n : ℕ) (bytes more : List ℕ) → Grows (grown more) (word_at version p ds marks cs n bytes) (word_at version q ds marks cs n (bytes ++ more))
 unfolding word_at
@@ -239,7 +245,7 @@ bodies_end : (version : Version) (total full : ℕ) (c : Counts) (bytes more : L
 unfolding bodies_at
 bodies_end version total full c bytes more some =
     binds (grown more) _ _ _ _ _ (items_grow (variable_at version total) (variable_at version full) more (variable_grows version total full more) c.variables [] bytes) (λ vs.
-    binds (grown more) _ _ _ _ _ (items_grow (instance_at total vs.0) (instance_at full vs.0) more (instance_grows total full vs.0 more) c.instances [] vs.1) (λ xs.
+    binds (grown more) _ _ _ _ _ (items_grow (instance_at version total vs.0) (instance_at version full vs.0) more (instance_grows version total full vs.0 more) c.instances [] vs.1) (λ xs.
     binds (grown more) _ _ _ _ _ (items_grow (mark_at total) (mark_at full) more (mark_grows total full more) c.labels [] xs.1) (λ ms.
     binds (grown more) _ _ _ _ _ (items_grow (constant_at version total) (constant_at version full) more (constant_grows version total full more) c.constants [] ms.1) (λ cs.
     let ds : Declarations = record { variables = vs.0; instances = xs.0 } in

@@ -1,6 +1,6 @@
 -- The two laws: what is read is the spelling of a typed program, and that spelling is read.
 use Rattle.std.proofs.Common.{◌≡◌, ℕ, ◌+◌, ◌≤◌, Bool, true, false, cond, ltb, List, [], ◌∷◌, length, Option, Some, None, Result, Ok, Err, refl, sym, ap, subst, ◌∙◌, arith}
-use Rattle.std.specs.Prelude.{nat_eq, nat_le, ◌&&◌, ◌||◌, IfOk}
+use Rattle.std.specs.Prelude.{nat_eq, nat_le, ◌||◌, ◌&&◌, ◌++◌, IfOk}
 use Rattle.std.specs.List.{flat_map, list_all, position, AllByRecursion}
 use Rattle.std.proofs.lemmas.Bool.{ltb-false, le-ltb, eqb-true, eq-eqb}
 use Rattle.std.proofs.lemmas.List.{take_all}
@@ -8,13 +8,14 @@ use Rattle.il_model.specs.declared.value.Value.{Value}
 use Rattle.il_model.specs.declared.codes.Version.{Version}
 use Rattle.il_model.specs.declared.program.Instance.{Instance}
 use Rattle.il_model.specs.declared.program.Instr.{Instr}
+use Rattle.il_model.specs.declared.program.Operand.{Operand}
 use Rattle.il_model.specs.declared.typing.TypeFault.{TypeFault}
 use Rattle.il_model.specs.Program.{Program, program_of}
 use Rattle.il_model.specs.Typing.{IsTyped}
 use Rattle.il_model.specs.Checking.{judgement_of}
 use Rattle.il_model.specs.Marks.{Mark, marks_from, words_in, AreRising, AreStarts}
-use Rattle.il_model.specs.Constants.{same_value, operands_of, constants_from, constants_of}
-use Rattle.il_model.specs.Image.{version_number, may_write, version_with, version_of, instruction_bytes, spelling}
+use Rattle.il_model.specs.Constants.{same_value, operands_in, operands_of, constants_from, constants_of}
+use Rattle.il_model.specs.Image.{version_number, op_version, may_have, may_name, may_write, version_with, version_of, instruction_bytes, spelling}
 use Rattle.il_model.specs.Fits.{IsMark, IsConstant, AreItems, IsProgram, IsImage}
 use Rattle.il_model.proofs.Marks.{table_again, table_rises, table_starts, table_labels}
 use Rattle.il_model.proofs.ConstantLists.{are_apart}
@@ -27,7 +28,7 @@ use Rattle.il_loader.specs.declared.word.Content.TheVariants as contents
 use Rattle.il_loader.specs.declared.fault.LoadFault.{LoadFault}
 use Rattle.il_loader.specs.declared.fault.LoadFault.TheVariants.{BadVersion, BadWord}
 use Rattle.il_loader.specs.declared.fault.LoadError.{LoadError}
-use Rattle.il_loader.specs.Tables.{Tables, declared_in, with_line, lines_of}
+use Rattle.il_loader.specs.Tables.{Tables, declared_in, operand_in, with_line, lines_of}
 use Rattle.il_loader.specs.Reading.{◌>>=◌, Gives, agrees, tables_at}
 use Rattle.il_loader.specs.Judging.{constant_place, risen, used_from, earlier, sooner, stray_from, misspelled, at_word, words_fine, all_used, is_own_version, small, judged_tables, image_of}
 use Rattle.il_loader.proofs.Fields.{IsBytes, bind_ok, agrees_ok, ok_is}
@@ -95,7 +96,7 @@ program_in t = record { variables = t.variables; instances = t.instances; code =
 
 -- the version that a program of these tables has
 abbrev version_in : Tables → Version
-version_in t = version_with t.variables t.constants (lines_of t.instances t.words)
+version_in t = version_with t.variables t.instances t.constants (lines_of t.instances t.words)
 
 record IsJudged (t : Tables) : Type 0 where
   short : length (lines_of t.instances t.words) ≤ 4096
@@ -186,7 +187,7 @@ tables_spelled t are judgement_of =
       words = w.words;
       words_few = subst (λ (k : ℕ). k ≤ 36864) long few-ws;
     } in
-    (record { text = text; short = judgement_of.short; typed = judgement_of.typed }, spelled_join t Q (judgement_of.version ∙ ap (λ (cs : List Value). version_with t.variables cs Q.code) (sym cs-is)) refl refl (sym ms-is) (sym cs-is) long w.same)
+    (record { text = text; short = judgement_of.short; typed = judgement_of.typed }, spelled_join t Q (judgement_of.version ∙ ap (λ (cs : List Value). version_with t.variables t.instances cs Q.code) (sym cs-is)) refl refl (sym ms-is) (sym cs-is) long w.same)
 
 pub image_takes : (bytes : List ℕ) (Q : Program) → IsBytes bytes → image_of bytes ≡ Ok Q → IsImage Q × (bytes ≡ spelling Q)
 unfolding image_of
@@ -217,21 +218,76 @@ tables_fit Q is =
       few = record { variables = text.variables_few; instances = text.instances_few; labels = text.labels_few; constants = text.constants_few; words = subst (λ (k : ℕ). k ≤ 36864) (sym (words_long Q (constants_of Q) Q.code)) text.words_few };
     }
 
-may_word : (version : Version) (xs : List Instance) (content : Content) (ws : List Word) → list_all (may_read version) ws ≡ list_all (may_write version) (lines_of xs ws) → (may_say version content && list_all (may_read version) ws) ≡ list_all (may_write version) (with_line xs content ws (lines_of xs ws))
-may_word version xs (contents.Instruction line) ws e = ap (λ b. may_write version line && b) e
-may_word version xs (contents.Argument side number operand) ws e = e
+-- a version may have the operator
+abbrev may_do : Version → Instr → Bool
+may_do version line = may_have version (op_version line.op)
 
--- an instruction's word is one that a version may have where the instruction is
-may_words : (version : Version) (xs : List Instance) (ws : List Word) → list_all (may_read version) ws ≡ list_all (may_write version) (lines_of xs ws)
-may_words version xs [] = refl
-may_words version xs (w ∷ ws) = may_word version xs w.content ws (may_words version xs ws)
+abbrev may_do_word : Version → Content → Bool
+may_do_word version (contents.Instruction line) = may_do version line
+may_do_word version (contents.Argument side number operand) = true
+
+do_word : (version : Version) (xs : List Instance) (content : Content) (ws : List Word) → list_all (λ (w : Word). may_do_word version w.content) ws ≡ list_all (may_do version) (lines_of xs ws)
+    → (may_do_word version content && list_all (λ (w : Word). may_do_word version w.content) ws) ≡ list_all (may_do version) (with_line xs content ws (lines_of xs ws))
+do_word version xs (contents.Instruction line) ws e = ap (λ b. may_do version line && b) e
+do_word version xs (contents.Argument side number operand) ws e = e
+
+do_words : (version : Version) (xs : List Instance) (ws : List Word) → list_all (λ (w : Word). may_do_word version w.content) ws ≡ list_all (may_do version) (lines_of xs ws)
+do_words version xs [] = refl
+do_words version xs (w ∷ ws) = do_word version xs w.content ws (do_words version xs ws)
+
+-- two tests of each, or one and then the other
+reordered : (a b c d : Bool) → ((a && b) && (c && d)) ≡ ((a && c) && (b && d))
+reordered true true c d = refl
+reordered true false true d = refl
+reordered true false false d = refl
+reordered false b c d = refl
+
+all_of_both : {X : Type 0} (p q : X → Bool) (xs : List X) → list_all (λ x. p x && q x) xs ≡ (list_all p xs && list_all q xs)
+all_of_both p q [] = refl
+all_of_both p q (x ∷ xs) = ap (λ b. (p x && q x) && b) (all_of_both p q xs) ∙ reordered (p x) (q x) (list_all p xs) (list_all q xs)
+
+all_of_append : {X : Type 0} (p : X → Bool) (xs ys : List X) → list_all p (xs ++ ys) ≡ (list_all p xs && list_all p ys)
+all_of_append p [] ys = refl
+all_of_append p (x ∷ xs) ys = ap (λ b. p x && b) (all_of_append p xs ys) ∙ and_assoc (p x) (list_all p xs) (list_all p ys)
+  where
+    and_assoc : (a b c : Bool) → (a && (b && c)) ≡ ((a && b) && c)
+    and_assoc true b c = refl
+    and_assoc false b c = refl
+
+all_of_lists : {X Y : Type 0} (p : Y → Bool) (f : X → List Y) (xs : List X) → list_all (λ x. list_all p (f x)) xs ≡ list_all p (flat_map f xs)
+all_of_lists p f [] = refl
+all_of_lists p f (x ∷ xs) = ap (λ b. list_all p (f x) && b) (all_of_lists p f xs) ∙ sym (all_of_append p (f x) (flat_map f xs))
+
+word_split : (version : Version) (content : Content) → may_say version content ≡ (may_do_word version content && may_name version (operand_in content))
+word_split version (contents.Instruction line) = refl
+word_split version (contents.Argument side number operand) = refl
+
+words_split : (version : Version) (ws : List Word) → list_all (may_read version) ws ≡ (list_all (λ (w : Word). may_do_word version w.content) ws && list_all (may_name version) (word_operands ws))
+words_split version [] = refl
+words_split version (w ∷ ws) =
+    ap (λ b. b && list_all (may_read version) ws) (word_split version w.content)
+    ∙ ap (λ b. (may_do_word version w.content && may_name version (operand_in w.content)) && b) (words_split version ws)
+    ∙ reordered (may_do_word version w.content) (may_name version (operand_in w.content)) (list_all (λ (w : Word). may_do_word version w.content) ws) (list_all (may_name version) (word_operands ws))
+
+lines_split : (version : Version) (code : List Instr) → list_all (may_write version) code ≡ (list_all (may_do version) code && list_all (may_name version) (operands_of code))
+lines_split version code =
+    all_of_both (may_do version) (λ line. list_all (may_name version) (operands_in line)) code
+    ∙ ap (λ b. list_all (may_do version) code && b) (all_of_lists (may_name version) operands_in code)
+
+-- the words are those that a version may have where the instructions are
+may_words : (version : Version) (xs : List Instance) (ws : List Word) → stray_from false ws ≡ None → list_all (may_read version) ws ≡ list_all (may_write version) (lines_of xs ws)
+may_words version xs ws stray =
+    words_split version ws
+    ∙ ap (λ b. b && list_all (may_name version) (word_operands ws)) (do_words version xs ws)
+    ∙ ap (λ (os : List Operand). list_all (may_do version) (lines_of xs ws) && list_all (may_name version) os) (sym (operands_are xs ws stray))
+    ∙ sym (lines_split version (lines_of xs ws))
 
 tables_short : (Q : Program) → IsImage Q → AreShort (tables_of Q)
 tables_short Q is =
     let cs = constants_of Q in
-    let may = version_may Q.variables cs Q.code in
-    let same : list_all (may_read (version_of Q)) (all_words Q) ≡ list_all (may_write (version_of Q)) Q.code = may_words (version_of Q) Q.instances (all_words Q) ∙ ap (list_all (may_write (version_of Q))) (lines_again Q cs [] Q.code is.text.words) in
-    record { variables = may.0; constants = may.1; words = same ∙ may.2 }
+    let may = version_may Q.variables Q.instances cs Q.code in
+    let same : list_all (may_read (version_of Q)) (all_words Q) ≡ list_all (may_write (version_of Q)) Q.code = may_words (version_of Q) Q.instances (all_words Q) (none_stray Q cs [] Q.code false is.text.words) ∙ ap (list_all (may_write (version_of Q))) (lines_again Q cs [] Q.code is.text.words) in
+    record { variables = may.0; instances = may.1; constants = may.2; words = same ∙ may.3 }
 
 tables_judged : (total : ℕ) (Q : Program) → IsImage Q → judged_tables total (tables_of Q) ≡ Ok Q
 unfolding judged_tables is_own_version

@@ -1,12 +1,13 @@
 -- What is read is spelled so, and what is spelled so is read: records and tables.
-use Rattle.std.proofs.Common.{◌≡◌, ℕ, zero, suc, ◌+◌, ◌-◌, ◌^◌, ◌<◌, ◌≤◌, Bool, true, false, cond, ltb, eqb, List, [], ◌∷◌, ◌++◌, length, take, drop, Option, Some, None, Result, Ok, Err, refl, sym, ap, subst, ◌∙◌, append_assoc, arith}
-use Rattle.std.specs.Prelude.{ℤ, slice_get, nat_eq, find}
+use Rattle.std.proofs.Common.{◌≡◌, ℕ, zero, suc, ◌-◌, ◌^◌, ◌<◌, ◌≤◌, Bool, true, false, cond, ltb, eqb, List, [], ◌∷◌, ◌++◌, length, take, drop, Option, Some, None, Result, Ok, Err, refl, sym, ap, subst, ◌∙◌, append_assoc, arith}
+use Rattle.std.specs.Prelude.{ℤ, nat_eq, find, ◌&&◌}
 use Rattle.std.specs.List.{flat_map}
 use Rattle.std.specs.Int.{w8, w16, to_be_bytes}
 use Rattle.std.proofs.lemmas.Bool.{ltb-false, ltb-true, lt-ltb, le-ltb, eqb-true}
 use Rattle.std.proofs.lemmas.List.{take_at, drop_at, take-append-drop, length-append, length-take, append-nil}
 use Rattle.std.proofs.lemmas.List.Concat.{flat_map-cons}
 use Rattle.il_model.specs.declared.value.Ty.{Ty}
+use Rattle.il_model.specs.declared.value.Ty.TheVariants as types
 use Rattle.il_model.specs.declared.value.Value.{Value}
 use Rattle.il_model.specs.declared.op.Op.{Op}
 use Rattle.il_model.specs.declared.op.Op.TheVariants as ops
@@ -26,19 +27,20 @@ use Rattle.il_model.specs.Values.{ty_of, number_of}
 use Rattle.il_model.specs.Kinds.{block_kinds, kind_code, kind_of_code}
 use Rattle.il_model.specs.Program.{Declarations}
 use Rattle.il_model.specs.Marks.{Mark}
-use Rattle.il_model.specs.Image.{type_code, location_code, name_bytes, type_version, value_version, may_have, may_declare, may_keep, may_write, number_bytes, variable_bytes, instance_bytes, mark_bytes, constant_bytes, op_code, modifier_code, side_code, coded_word}
-use Rattle.il_model.specs.Codes.{is_new_name, is_new_instance, is_new_label, length_of, type_of, type_in, coded_location, initial_of, constant_of, usage_of, allowed_by, op_of, op_in, modifier_of, letters_of, label_there, word_operand, side_of, argument_number, argument_operand}
+use Rattle.il_model.specs.Image.{type_code, location_code, name_bytes, type_version, value_version, op_version, may_have, may_lie, may_retain, may_declare, may_instantiate, declared_code, may_keep, may_name, number_bytes, variable_bytes, instance_bytes, mark_bytes, constant_bytes, op_code, modifier_code, side_code, coded_word}
+use Rattle.il_model.specs.Codes.{is_new_name, is_new_instance, is_new_label, length_of, type_of, type_in, retained_in, plain_code, coded_location, coded_location_in, initial_of, constant_of, usage_of, allowed_by, op_of, op_in, modifier_of, letters_of, label_there, word_operand, word_operand_in, side_of, argument_number, argument_operand, argument_operand_in}
 use Rattle.il_model.specs.Fits.{IsVariable, IsInstance, IsMark, IsConstant, IsCoded, AreItems}
 use Rattle.il_model.proofs.BlockKinds.{kind_of_code-kind_code}
 use Rattle.il_model.proofs.OpCodes.{op_is}
 use Rattle.il_model.proofs.RowTypes.{and_yes}
-use Rattle.il_model.proofs.Versions.{IsKept, variable_kept, constant_kept, type_in_again, type_in_is, op_in_again, op_in_is}
+use Rattle.il_model.proofs.Retained.{plain_again, declared_small, retained_again, code_is}
+use Rattle.il_model.proofs.Versions.{IsKept, variable_kept, constant_kept, type_in_again, type_in_is, op_in_again, op_in_is, place_in_again, place_in_is, operand_in_again, operand_in_is, argument_in_again, argument_in_is}
 use Rattle.il_loader.specs.declared.word.Word.{Word}
 use Rattle.il_loader.specs.declared.word.Content.{Content}
 use Rattle.il_loader.specs.declared.word.Content.TheVariants as contents
 use Rattle.il_loader.specs.declared.fault.LoadFault.{LoadFault}
 use Rattle.il_loader.specs.declared.fault.LoadFault.TheVariants.{Truncated, BadWord}
-use Rattle.il_loader.specs.Reading.{◌>>=◌, number_at, signed_at, lawful, agrees, items_from, spelled_name_at, name_at, first_value_at, variable_at, instance_at, mark_at, constant_at, instruction_at, argument_at, word_by, word_at}
+use Rattle.il_loader.specs.Reading.{◌>>=◌, number_at, signed_at, lawful, agrees, items_from, spelled_name_at, name_at, first_value_at, declared_at, variable_at, instance_at, mark_at, constant_at, instruction_at, argument_at, word_by, word_at}
 use Rattle.il_loader.proofs.Fields.{IsBytes, IsBytes-drop, bind_ok, guard_no, agrees_ok, lawful_ok, some_yes, ok_is, Takes, Takes-then, wide8, wide16, number_takes, number_again, signed_takes, signed_again, length_is, length_below, type_is, type_small, location_is, initial_is, tested_some, constant_is}
 
 record IsName (is_new : List ℕ → Bool) (name : List ℕ) : Type 0 where
@@ -104,9 +106,23 @@ first_value_again : (version : Version) (p : ℕ) (type : Ty) (loc : Option Loc)
 unfolding first_value_at
 first_value_again version p type loc v rest is kept = rw (signed_again version (number_of v) rest kept, is) refl
 
+-- the code of a declaration
+declared_takes : (version : Version) (p : ℕ) (bytes : List ℕ) (x : (Bool × ℕ) × List ℕ) → IsBytes bytes → declared_at version p bytes ≡ Ok x → Takes bytes (to_be_bytes w8 (declared_code x.0.0 x.0.1)) x.1
+unfolding declared_at
+declared_takes version p bytes x fits e =
+    let b_code = bind_ok (number_at w8 bytes) (λ code. lawful p (retained_in version code.0) >>= λ retained. Ok ((retained, plain_code code.0), code.1)) x e in
+    let b_retained = bind_ok (lawful p (retained_in version b_code.0.0)) (λ retained. Ok ((retained, plain_code b_code.0.0), b_code.0.1)) x b_code.2 in
+    let t = number_takes w8 (2 ^ 8) wide8 bytes b_code.0.0 b_code.0.1 fits b_code.1 in
+    let is : declared_code b_retained.0 (plain_code b_code.0.0) ≡ b_code.0.0 = code_is version b_code.0.0 b_retained.0 (lawful_ok p (retained_in version b_code.0.0) b_retained.0 b_retained.1) in
+    subst (λ (y : (Bool × ℕ) × List ℕ). Takes bytes (to_be_bytes w8 (declared_code y.0.0 y.0.1)) y.1) (ok_is ((b_retained.0, plain_code b_code.0.0), b_code.0.1) x b_retained.2) (subst (λ (k : ℕ). Takes bytes (to_be_bytes w8 k) b_code.0.1) (sym is) t.0)
+
+declared_again : (version : Version) (p : ℕ) (r : Bool) (n : ℕ) (rest : List ℕ) → n < 128 → may_retain version r ≡ true → declared_at version p (to_be_bytes w8 (declared_code r n) ++ rest) ≡ Ok ((r, n), rest)
+unfolding declared_at
+declared_again version p r n rest small may = rw (number_again w8 (2 ^ 8) wide8 (declared_code r n) rest (declared_small r n small), retained_again version r n small may, plain_again r n small) refl
+
 -- the parts of a variable, each with what was read of it
 variable_joins : (version : Version) (seen : List Variable) (bytes r0 r1 r2 rest : List ℕ) (v : Variable) (code place : ℕ)
-    → Takes bytes (name_bytes v.name) r0 → Takes r0 (to_be_bytes w8 code) r1 → Takes r1 (to_be_bytes w16 place) r2 → Takes r2 (number_bytes version (number_of v.initial)) rest
+    → Takes bytes (name_bytes v.name) r0 → Takes r0 (to_be_bytes w8 (declared_code v.retained code)) r1 → Takes r1 (to_be_bytes w16 place) r2 → Takes r2 (number_bytes version (number_of v.initial)) rest
     → IsName (is_new_name seen) v.name → type_in version code ≡ Some v.ty → coded_location seen v.ty place ≡ Some v.location → place < 2 ^ 16 → initial_of v.ty v.location (number_of v.initial) ≡ Some v.initial
     → Takes bytes (variable_bytes version v) rest × IsVariable seen v
 variable_joins version seen bytes r0 r1 r2 rest v code place t0 t1 t2 t3 name ty-in loc-ok place-lt value-ok =
@@ -114,10 +130,10 @@ variable_joins version seen bytes r0 r1 r2 rest v code place t0 t1 t2 t3 name ty
     let ty-is = sym (type_is code v.ty ty-ok) in
     let loc-is = sym (location_is seen v.ty place v.location loc-ok) in
     let s2 = subst (λ (k : ℕ). Takes r1 (to_be_bytes w16 k) r2) loc-is t2 in
-    let s1 = subst (λ (k : ℕ). Takes r0 (to_be_bytes w8 k) r1) ty-is t1 in
+    let s1 = subst (λ (k : ℕ). Takes r0 (to_be_bytes w8 (declared_code v.retained k)) r1) ty-is t1 in
     let e23 = Takes-then r1 (to_be_bytes w16 (location_code v.location)) r2 (number_bytes version (number_of v.initial)) rest s2 t3 in
-    let e13 = Takes-then r0 (to_be_bytes w8 (type_code v.ty)) r1 (to_be_bytes w16 (location_code v.location) ++ number_bytes version (number_of v.initial)) rest s1 e23 in
-    let e03 = Takes-then bytes (name_bytes v.name) r0 (to_be_bytes w8 (type_code v.ty) ++ (to_be_bytes w16 (location_code v.location) ++ number_bytes version (number_of v.initial))) rest t0 e13 in (
+    let e13 = Takes-then r0 (to_be_bytes w8 (declared_code v.retained (type_code v.ty))) r1 (to_be_bytes w16 (location_code v.location) ++ number_bytes version (number_of v.initial)) rest s1 e23 in
+    let e03 = Takes-then bytes (name_bytes v.name) r0 (to_be_bytes w8 (declared_code v.retained (type_code v.ty)) ++ (to_be_bytes w16 (location_code v.location) ++ number_bytes version (number_of v.initial))) rest t0 e13 in (
       e03,
       record {
         length = name.len;
@@ -130,7 +146,7 @@ variable_joins version seen bytes r0 r1 r2 rest v code place t0 t1 t2 t3 name ty
     )
 
 variable_ends : (version : Version) (seen : List Variable) (bytes r0 r1 r2 rest : List ℕ) (v : Variable) (code place : ℕ) (x : Variable × List ℕ)
-    → Takes bytes (name_bytes v.name) r0 → Takes r0 (to_be_bytes w8 code) r1 → Takes r1 (to_be_bytes w16 place) r2 → Takes r2 (number_bytes version (number_of v.initial)) rest
+    → Takes bytes (name_bytes v.name) r0 → Takes r0 (to_be_bytes w8 (declared_code v.retained code)) r1 → Takes r1 (to_be_bytes w16 place) r2 → Takes r2 (number_bytes version (number_of v.initial)) rest
     → IsName (is_new_name seen) v.name → type_in version code ≡ Some v.ty → coded_location seen v.ty place ≡ Some v.location → place < 2 ^ 16 → initial_of v.ty v.location (number_of v.initial) ≡ Some v.initial
     → (let r : Result (Variable × List ℕ) LoadFault = Ok (v, rest) in r ≡ Ok x)
     → Takes bytes (variable_bytes version x.0) x.1 × IsVariable seen x.0
@@ -138,30 +154,30 @@ variable_ends version seen bytes r0 r1 r2 rest v code place x t0 t1 t2 t3 name t
     subst (λ (y : Variable × List ℕ). Takes bytes (variable_bytes version y.0) y.1 × IsVariable seen y.0) (ok_is (v, rest) x e) (variable_joins version seen bytes r0 r1 r2 rest v code place t0 t1 t2 t3 name ty-in loc-ok place-lt value-ok)
 
 -- a variable behind its name and its type
-variable_tail : (version : Version) (p : ℕ) (seen : List Variable) (bytes r0 r1 name : List ℕ) (code : ℕ) (type : Ty) (x : Variable × List ℕ)
-    → Takes bytes (name_bytes name) r0 → IsName (is_new_name seen) name → Takes r0 (to_be_bytes w8 code) r1 → type_in version code ≡ Some type
-    → (number_at w16 r1 >>= λ place. lawful p (coded_location seen type place.0) >>= λ loc. first_value_at version p type loc place.1 >>= λ first. Ok (record { name = name; ty = type; location = loc; initial = first.0 }, first.1)) ≡ Ok x
+variable_tail : (version : Version) (p : ℕ) (seen : List Variable) (bytes r0 r1 name : List ℕ) (retained : Bool) (code : ℕ) (type : Ty) (x : Variable × List ℕ)
+    → Takes bytes (name_bytes name) r0 → IsName (is_new_name seen) name → Takes r0 (to_be_bytes w8 (declared_code retained code)) r1 → type_in version code ≡ Some type
+    → (number_at w16 r1 >>= λ place. lawful p (coded_location_in version seen type place.0) >>= λ loc. first_value_at version p type loc place.1 >>= λ first. Ok (record { name = name; ty = type; location = loc; initial = first.0; retained = retained }, first.1)) ≡ Ok x
     → Takes bytes (variable_bytes version x.0) x.1 × IsVariable seen x.0
-variable_tail version p seen bytes r0 r1 name code type x t0 named t1 ty-in e =
-    let b_place = bind_ok (number_at w16 r1) (λ place. lawful p (coded_location seen type place.0) >>= λ loc. first_value_at version p type loc place.1 >>= λ first. Ok (record { name = name; ty = type; location = loc; initial = first.0 }, first.1)) x e in
-    let b_loc = bind_ok (lawful p (coded_location seen type b_place.0.0)) (λ loc. first_value_at version p type loc b_place.0.1 >>= λ first. Ok (record { name = name; ty = type; location = loc; initial = first.0 }, first.1)) x b_place.2 in
-    let b_first = bind_ok (first_value_at version p type b_loc.0 b_place.0.1) (λ first. Ok (record { name = name; ty = type; location = b_loc.0; initial = first.0 }, first.1)) x b_loc.2 in
+variable_tail version p seen bytes r0 r1 name retained code type x t0 named t1 ty-in e =
+    let b_place = bind_ok (number_at w16 r1) (λ place. lawful p (coded_location_in version seen type place.0) >>= λ loc. first_value_at version p type loc place.1 >>= λ first. Ok (record { name = name; ty = type; location = loc; initial = first.0; retained = retained }, first.1)) x e in
+    let b_loc = bind_ok (lawful p (coded_location_in version seen type b_place.0.0)) (λ loc. first_value_at version p type loc b_place.0.1 >>= λ first. Ok (record { name = name; ty = type; location = loc; initial = first.0; retained = retained }, first.1)) x b_place.2 in
+    let b_first = bind_ok (first_value_at version p type b_loc.0 b_place.0.1) (λ first. Ok (record { name = name; ty = type; location = b_loc.0; initial = first.0; retained = retained }, first.1)) x b_loc.2 in
     let t2 = number_takes w16 (2 ^ 16) wide16 r1 b_place.0.0 b_place.0.1 t1.rest_fits b_place.1 in
     let t3 = first_value_takes version p type b_loc.0 b_place.0.1 b_first.0 t2.0.rest_fits b_first.1 in
-    let loc-ok = lawful_ok p (coded_location seen type b_place.0.0) b_loc.0 b_loc.1 in
-    variable_ends version seen bytes r0 r1 b_place.0.1 b_first.0.1 (record { name = name; ty = type; location = b_loc.0; initial = b_first.0.0 }) code b_place.0.0 x t0 t1 t2.0 t3.0 named ty-in loc-ok t2.1 t3.1 b_first.2
+    let loc-ok = (place_in_is version seen type b_place.0.0 b_loc.0 (lawful_ok p (coded_location_in version seen type b_place.0.0) b_loc.0 b_loc.1)).0 in
+    variable_ends version seen bytes r0 r1 b_place.0.1 b_first.0.1 (record { name = name; ty = type; location = b_loc.0; initial = b_first.0.0; retained = retained }) code b_place.0.0 x t0 t1 t2.0 t3.0 named ty-in loc-ok t2.1 t3.1 b_first.2
 
 pub variable_takes : (version : Version) (total : ℕ) (seen : List Variable) (bytes : List ℕ) (x : Variable × List ℕ) → IsBytes bytes → variable_at version total seen bytes ≡ Ok x → Takes bytes (variable_bytes version x.0) x.1 × IsVariable seen x.0
 unfolding variable_at
 variable_takes version total seen bytes x fits e =
     let p = total - length bytes in
-    let b_name = bind_ok (name_at p (is_new_name seen) bytes) (λ name. number_at w8 name.1 >>= λ code. lawful p (type_in version code.0) >>= λ type. number_at w16 code.1 >>= λ place. lawful p (coded_location seen type place.0) >>= λ loc. first_value_at version p type loc place.1 >>= λ first. Ok (record { name = name.0; ty = type; location = loc; initial = first.0 }, first.1)) x e in
-    let b_code = bind_ok (number_at w8 b_name.0.1) (λ code. lawful p (type_in version code.0) >>= λ type. number_at w16 code.1 >>= λ place. lawful p (coded_location seen type place.0) >>= λ loc. first_value_at version p type loc place.1 >>= λ first. Ok (record { name = b_name.0.0; ty = type; location = loc; initial = first.0 }, first.1)) x b_name.2 in
-    let b_type = bind_ok (lawful p (type_in version b_code.0.0)) (λ type. number_at w16 b_code.0.1 >>= λ place. lawful p (coded_location seen type place.0) >>= λ loc. first_value_at version p type loc place.1 >>= λ first. Ok (record { name = b_name.0.0; ty = type; location = loc; initial = first.0 }, first.1)) x b_code.2 in
+    let b_name = bind_ok (name_at p (is_new_name seen) bytes) (λ name. declared_at version p name.1 >>= λ code. lawful p (type_in version code.0.1) >>= λ type. number_at w16 code.1 >>= λ place. lawful p (coded_location_in version seen type place.0) >>= λ loc. first_value_at version p type loc place.1 >>= λ first. Ok (record { name = name.0; ty = type; location = loc; initial = first.0; retained = code.0.0 }, first.1)) x e in
+    let b_code = bind_ok (declared_at version p b_name.0.1) (λ code. lawful p (type_in version code.0.1) >>= λ type. number_at w16 code.1 >>= λ place. lawful p (coded_location_in version seen type place.0) >>= λ loc. first_value_at version p type loc place.1 >>= λ first. Ok (record { name = b_name.0.0; ty = type; location = loc; initial = first.0; retained = code.0.0 }, first.1)) x b_name.2 in
+    let b_type = bind_ok (lawful p (type_in version b_code.0.0.1)) (λ type. number_at w16 b_code.0.1 >>= λ place. lawful p (coded_location_in version seen type place.0) >>= λ loc. first_value_at version p type loc place.1 >>= λ first. Ok (record { name = b_name.0.0; ty = type; location = loc; initial = first.0; retained = b_code.0.0.0 }, first.1)) x b_code.2 in
     let t0 = name_takes p (is_new_name seen) bytes b_name.0 fits b_name.1 in
-    let t1 = number_takes w8 (2 ^ 8) wide8 b_name.0.1 b_code.0.0 b_code.0.1 t0.0.rest_fits b_code.1 in
-    let ty-in = lawful_ok p (type_in version b_code.0.0) b_type.0 b_type.1 in
-    variable_tail version p seen bytes b_name.0.1 b_code.0.1 b_name.0.0 b_code.0.0 b_type.0 x t0.0 t0.1 t1.0 ty-in b_type.2
+    let t1 = declared_takes version p b_name.0.1 b_code.0 t0.0.rest_fits b_code.1 in
+    let ty-in = lawful_ok p (type_in version b_code.0.0.1) b_type.0 b_type.1 in
+    variable_tail version p seen bytes b_name.0.1 b_code.0.1 b_name.0.0 b_code.0.0.0 b_code.0.0.1 b_type.0 x t0.0 t0.1 t1 ty-in b_type.2
 
 -- four parts, and what follows
 regrouped_4 : (a b c d rest : List ℕ) → (a ++ (b ++ (c ++ d))) ++ rest ≡ a ++ (b ++ (c ++ (d ++ rest)))
@@ -170,16 +186,28 @@ regrouped_4 a b c d rest = append_assoc a (b ++ (c ++ d)) rest ∙ ap (λ (x : L
 regrouped_3 : (a b c rest : List ℕ) → (a ++ (b ++ c)) ++ rest ≡ a ++ (b ++ (c ++ rest))
 regrouped_3 a b c rest = append_assoc a (b ++ c) rest ∙ ap (λ (x : List ℕ). a ++ x) (append_assoc b c rest)
 
+type_below : (t : Ty) → type_code t < 128
+type_below types.Bool = omega arith
+type_below types.Int = omega arith
+type_below types.Dint = omega arith
+type_below types.Time = omega arith
+type_below types.Lint = omega arith
+type_below types.Real = omega arith
+
 pub variable_again : (version : Version) (total : ℕ) (seen : List Variable) (v : Variable) (rest : List ℕ) → IsVariable seen v → may_declare version v ≡ true → variable_at version total seen (variable_bytes version v ++ rest) ≡ Ok (v, rest)
 unfolding variable_at
 variable_again version total seen v rest is may =
     let p = total - length (variable_bytes version v ++ rest) in
-    let b1 = to_be_bytes w8 (type_code v.ty) in
+    let b1 = to_be_bytes w8 (declared_code v.retained (type_code v.ty)) in
     let b2 = to_be_bytes w16 (location_code v.location) in
     let b3 = number_bytes version (number_of v.initial) in
-    let type = type_in_again version v.ty (and_yes (may_have version (type_version v.ty)) (may_have version (value_version v.initial)) may).0 in
+    let first = and_yes (may_have version (type_version v.ty)) _ may in
+    let rest-may = and_yes (may_have version (value_version v.initial)) _ first.1 in
+    let place-may = and_yes (may_lie version v.location) (may_retain version v.retained) rest-may.1 in
+    let type = type_in_again version v.ty first.0 in
+    let place = place_in_again version seen v.ty (location_code v.location) v.location is.location place-may.0 in
     let h0 : name_at p (is_new_name seen) (variable_bytes version v ++ rest) ≡ Ok (v.name, b1 ++ (b2 ++ (b3 ++ rest))) = ap (name_at p (is_new_name seen)) (regrouped_4 (name_bytes v.name) b1 b2 b3 rest) ∙ name_again p (is_new_name seen) v.name (b1 ++ (b2 ++ (b3 ++ rest))) is.length is.name in
-    rw (h0, number_again w8 (2 ^ 8) wide8 (type_code v.ty) (b2 ++ (b3 ++ rest)) (type_small v.ty), type, number_again w16 (2 ^ 16) wide16 (location_code v.location) (b3 ++ rest) is.location_small, is.location, first_value_again version p v.ty v.location v.initial rest is.initial (variable_kept version seen v is may)) refl
+    rw (h0, declared_again version p v.retained (type_code v.ty) (b2 ++ (b3 ++ rest)) (type_below v.ty) place-may.1, type, number_again w16 (2 ^ 16) wide16 (location_code v.location) (b3 ++ rest) is.location_small, place, first_value_again version p v.ty v.location v.initial rest is.initial (variable_kept version seen v is may)) refl
 
 -- ---- instances
 
@@ -195,45 +223,45 @@ found_passes p (x ∷ xs) y e = found_by p (p x) x (find p xs) y refl e (λ h. f
 kind_is : (n : ℕ) (kind : BlockKind) → kind_of_code n ≡ Some kind → kind_code kind ≡ n
 kind_is n kind e = eqb-true (kind_code kind) n (found_passes (λ (k : BlockKind). nat_eq (kind_code k) n) block_kinds kind e)
 
-kind_small : (kind : BlockKind) → kind_code kind < 2 ^ 8
-kind_small kinds.Sr = omega arith
-kind_small kinds.Rs = omega arith
-kind_small kinds.RTrig = omega arith
-kind_small kinds.FTrig = omega arith
-kind_small kinds.Ctu = omega arith
-kind_small kinds.Ctd = omega arith
-kind_small kinds.Ctud = omega arith
-kind_small kinds.Tp = omega arith
-kind_small kinds.Ton = omega arith
-kind_small kinds.Tof = omega arith
+kind_below : (kind : BlockKind) → kind_code kind < 128
+kind_below kinds.Sr = omega arith
+kind_below kinds.Rs = omega arith
+kind_below kinds.RTrig = omega arith
+kind_below kinds.FTrig = omega arith
+kind_below kinds.Ctu = omega arith
+kind_below kinds.Ctd = omega arith
+kind_below kinds.Ctud = omega arith
+kind_below kinds.Tp = omega arith
+kind_below kinds.Ton = omega arith
+kind_below kinds.Tof = omega arith
 
-instance_joins : (vs : List Variable) (seen : List Instance) (bytes r0 rest : List ℕ) (x : Instance) (code : ℕ) → Takes bytes (name_bytes x.name) r0 → Takes r0 (to_be_bytes w8 code) rest → IsName (is_new_instance vs seen) x.name → kind_of_code code ≡ Some x.kind
+instance_joins : (vs : List Variable) (seen : List Instance) (bytes r0 rest : List ℕ) (x : Instance) (code : ℕ) → Takes bytes (name_bytes x.name) r0 → Takes r0 (to_be_bytes w8 (declared_code x.retained code)) rest → IsName (is_new_instance vs seen) x.name → kind_of_code code ≡ Some x.kind
     → Takes bytes (instance_bytes x) rest × IsInstance vs seen x
 instance_joins vs seen bytes r0 rest x code t0 t1 named kind-ok = (
-  Takes-then bytes (name_bytes x.name) r0 (to_be_bytes w8 (kind_code x.kind)) rest t0 (subst (λ (k : ℕ). Takes r0 (to_be_bytes w8 k) rest) (sym (kind_is code x.kind kind-ok)) t1),
+  Takes-then bytes (name_bytes x.name) r0 (to_be_bytes w8 (declared_code x.retained (kind_code x.kind))) rest t0 (subst (λ (k : ℕ). Takes r0 (to_be_bytes w8 (declared_code x.retained k)) rest) (sym (kind_is code x.kind kind-ok)) t1),
   record { length = named.len; name = named.new },
 )
 
-pub instance_takes : (total : ℕ) (vs : List Variable) (seen : List Instance) (bytes : List ℕ) (x : Instance × List ℕ) → IsBytes bytes → instance_at total vs seen bytes ≡ Ok x → Takes bytes (instance_bytes x.0) x.1 × IsInstance vs seen x.0
+pub instance_takes : (version : Version) (total : ℕ) (vs : List Variable) (seen : List Instance) (bytes : List ℕ) (x : Instance × List ℕ) → IsBytes bytes → instance_at version total vs seen bytes ≡ Ok x → Takes bytes (instance_bytes x.0) x.1 × IsInstance vs seen x.0
 unfolding instance_at
-instance_takes total vs seen bytes x fits e =
+instance_takes version total vs seen bytes x fits e =
     let p = total - length bytes in
-    let b_name = bind_ok (name_at p (is_new_instance vs seen) bytes) (λ name. number_at w8 name.1 >>= λ code. lawful p (kind_of_code code.0) >>= λ kind. Ok (record { name = name.0; kind = kind }, code.1)) x e in
-    let b_code = bind_ok (number_at w8 b_name.0.1) (λ code. lawful p (kind_of_code code.0) >>= λ kind. Ok (record { name = b_name.0.0; kind = kind }, code.1)) x b_name.2 in
-    let b_kind = bind_ok (lawful p (kind_of_code b_code.0.0)) (λ kind. Ok (record { name = b_name.0.0; kind = kind }, b_code.0.1)) x b_code.2 in
+    let b_name = bind_ok (name_at p (is_new_instance vs seen) bytes) (λ name. declared_at version p name.1 >>= λ code. lawful p (kind_of_code code.0.1) >>= λ kind. Ok (record { name = name.0; kind = kind; retained = code.0.0 }, code.1)) x e in
+    let b_code = bind_ok (declared_at version p b_name.0.1) (λ code. lawful p (kind_of_code code.0.1) >>= λ kind. Ok (record { name = b_name.0.0; kind = kind; retained = code.0.0 }, code.1)) x b_name.2 in
+    let b_kind = bind_ok (lawful p (kind_of_code b_code.0.0.1)) (λ kind. Ok (record { name = b_name.0.0; kind = kind; retained = b_code.0.0.0 }, b_code.0.1)) x b_code.2 in
     let t0 = name_takes p (is_new_instance vs seen) bytes b_name.0 fits b_name.1 in
-    let t1 = number_takes w8 (2 ^ 8) wide8 b_name.0.1 b_code.0.0 b_code.0.1 t0.0.rest_fits b_code.1 in
-    let kind-ok = lawful_ok p (kind_of_code b_code.0.0) b_kind.0 b_kind.1 in
-    let y : Instance = record { name = b_name.0.0; kind = b_kind.0 } in
-    subst (λ (z : Instance × List ℕ). Takes bytes (instance_bytes z.0) z.1 × IsInstance vs seen z.0) (ok_is (y, b_code.0.1) x b_kind.2) (instance_joins vs seen bytes b_name.0.1 b_code.0.1 y b_code.0.0 t0.0 t1.0 t0.1 kind-ok)
+    let t1 = declared_takes version p b_name.0.1 b_code.0 t0.0.rest_fits b_code.1 in
+    let kind-ok = lawful_ok p (kind_of_code b_code.0.0.1) b_kind.0 b_kind.1 in
+    let y : Instance = record { name = b_name.0.0; kind = b_kind.0; retained = b_code.0.0.0 } in
+    subst (λ (z : Instance × List ℕ). Takes bytes (instance_bytes z.0) z.1 × IsInstance vs seen z.0) (ok_is (y, b_code.0.1) x b_kind.2) (instance_joins vs seen bytes b_name.0.1 b_code.0.1 y b_code.0.0.1 t0.0 t1 t0.1 kind-ok)
 
-pub instance_again : (total : ℕ) (vs : List Variable) (seen : List Instance) (x : Instance) (rest : List ℕ) → IsInstance vs seen x → instance_at total vs seen (instance_bytes x ++ rest) ≡ Ok (x, rest)
+pub instance_again : (version : Version) (total : ℕ) (vs : List Variable) (seen : List Instance) (x : Instance) (rest : List ℕ) → IsInstance vs seen x → may_instantiate version x ≡ true → instance_at version total vs seen (instance_bytes x ++ rest) ≡ Ok (x, rest)
 unfolding instance_at
-instance_again total vs seen x rest is =
+instance_again version total vs seen x rest is may =
     let p = total - length (instance_bytes x ++ rest) in
-    let b1 = to_be_bytes w8 (kind_code x.kind) in
+    let b1 = to_be_bytes w8 (declared_code x.retained (kind_code x.kind)) in
     let h0 : name_at p (is_new_instance vs seen) (instance_bytes x ++ rest) ≡ Ok (x.name, b1 ++ rest) = ap (name_at p (is_new_instance vs seen)) (append_assoc (name_bytes x.name) b1 rest) ∙ name_again p (is_new_instance vs seen) x.name (b1 ++ rest) is.length is.name in
-    rw (h0, number_again w8 (2 ^ 8) wide8 (kind_code x.kind) rest (kind_small x.kind), kind_of_code-kind_code x.kind) refl
+    rw (h0, declared_again version p x.retained (kind_code x.kind) rest (kind_below x.kind) may, kind_of_code-kind_code x.kind) refl
 
 -- ---- labels
 
@@ -428,8 +456,8 @@ instruction_joins ds marks constants n bytes r0 r1 rest a b op m operand code t0
 -- an operator that converts to LINT or from it
 -- an image of a version may have such a word
 abbrev pub may_say : Version → Content → Bool
-may_say version (contents.Instruction line) = may_write version line
-may_say version (contents.Argument side number operand) = true
+may_say version (contents.Instruction line) = may_have version (op_version line.op) && may_name version line.operand
+may_say version (contents.Argument side number operand) = may_name version operand
 
 abbrev pub may_read : Version → Word → Bool
 may_read version w = may_say version w.content
@@ -442,16 +470,16 @@ instruction_takes : (version : Version) (p : ℕ) (ds : Declarations) (marks : L
     → instruction_at version p ds marks constants n code r0 ≡ Ok x → Reads ds marks constants n bytes x
 unfolding instruction_at
 instruction_takes version p ds marks constants n code bytes r0 x t0 lt e =
-    let b_op = bind_ok (lawful p (op_in version code)) (λ op. number_at w8 r0 >>= λ letters. lawful p (letters_of op letters.0) >>= λ m. number_at w16 letters.1 >>= λ slot. lawful p (word_operand ds marks constants op m slot.0) >>= λ operand. Ok (record { content = contents.Instruction (record { label = label_there marks n; op = op; modifier = m; operand = operand; arguments = [] }); code = slot.0 }, slot.1)) x e in
-    let b_letters = bind_ok (number_at w8 r0) (λ letters. lawful p (letters_of b_op.0 letters.0) >>= λ m. number_at w16 letters.1 >>= λ slot. lawful p (word_operand ds marks constants b_op.0 m slot.0) >>= λ operand. Ok (record { content = contents.Instruction (record { label = label_there marks n; op = b_op.0; modifier = m; operand = operand; arguments = [] }); code = slot.0 }, slot.1)) x b_op.2 in
-    let b_m = bind_ok (lawful p (letters_of b_op.0 b_letters.0.0)) (λ m. number_at w16 b_letters.0.1 >>= λ slot. lawful p (word_operand ds marks constants b_op.0 m slot.0) >>= λ operand. Ok (record { content = contents.Instruction (record { label = label_there marks n; op = b_op.0; modifier = m; operand = operand; arguments = [] }); code = slot.0 }, slot.1)) x b_letters.2 in
-    let b_slot = bind_ok (number_at w16 b_letters.0.1) (λ slot. lawful p (word_operand ds marks constants b_op.0 b_m.0 slot.0) >>= λ operand. Ok (record { content = contents.Instruction (record { label = label_there marks n; op = b_op.0; modifier = b_m.0; operand = operand; arguments = [] }); code = slot.0 }, slot.1)) x b_m.2 in
-    let b_operand = bind_ok (lawful p (word_operand ds marks constants b_op.0 b_m.0 b_slot.0.0)) (λ operand. Ok (record { content = contents.Instruction (record { label = label_there marks n; op = b_op.0; modifier = b_m.0; operand = operand; arguments = [] }); code = b_slot.0.0 }, b_slot.0.1)) x b_slot.2 in
+    let b_op = bind_ok (lawful p (op_in version code)) (λ op. number_at w8 r0 >>= λ letters. lawful p (letters_of op letters.0) >>= λ m. number_at w16 letters.1 >>= λ slot. lawful p (word_operand_in version ds marks constants op m slot.0) >>= λ operand. Ok (record { content = contents.Instruction (record { label = label_there marks n; op = op; modifier = m; operand = operand; arguments = [] }); code = slot.0 }, slot.1)) x e in
+    let b_letters = bind_ok (number_at w8 r0) (λ letters. lawful p (letters_of b_op.0 letters.0) >>= λ m. number_at w16 letters.1 >>= λ slot. lawful p (word_operand_in version ds marks constants b_op.0 m slot.0) >>= λ operand. Ok (record { content = contents.Instruction (record { label = label_there marks n; op = b_op.0; modifier = m; operand = operand; arguments = [] }); code = slot.0 }, slot.1)) x b_op.2 in
+    let b_m = bind_ok (lawful p (letters_of b_op.0 b_letters.0.0)) (λ m. number_at w16 b_letters.0.1 >>= λ slot. lawful p (word_operand_in version ds marks constants b_op.0 m slot.0) >>= λ operand. Ok (record { content = contents.Instruction (record { label = label_there marks n; op = b_op.0; modifier = m; operand = operand; arguments = [] }); code = slot.0 }, slot.1)) x b_letters.2 in
+    let b_slot = bind_ok (number_at w16 b_letters.0.1) (λ slot. lawful p (word_operand_in version ds marks constants b_op.0 b_m.0 slot.0) >>= λ operand. Ok (record { content = contents.Instruction (record { label = label_there marks n; op = b_op.0; modifier = b_m.0; operand = operand; arguments = [] }); code = slot.0 }, slot.1)) x b_m.2 in
+    let b_operand = bind_ok (lawful p (word_operand_in version ds marks constants b_op.0 b_m.0 b_slot.0.0)) (λ operand. Ok (record { content = contents.Instruction (record { label = label_there marks n; op = b_op.0; modifier = b_m.0; operand = operand; arguments = [] }); code = b_slot.0.0 }, b_slot.0.1)) x b_slot.2 in
     let t1 = number_takes w8 (2 ^ 8) wide8 r0 b_letters.0.0 b_letters.0.1 t0.rest_fits b_letters.1 in
     let t2 = number_takes w16 (2 ^ 16) wide16 b_letters.0.1 b_slot.0.0 b_slot.0.1 t1.0.rest_fits b_slot.1 in
     let op-ok = (op_in_is version code b_op.0 (lawful_ok p (op_in version code) b_op.0 b_op.1)).0 in
     let m-ok = lawful_ok p (letters_of b_op.0 b_letters.0.0) b_m.0 b_m.1 in
-    let operand-ok = lawful_ok p (word_operand ds marks constants b_op.0 b_m.0 b_slot.0.0) b_operand.0 b_operand.1 in
+    let operand-ok = (operand_in_is version ds marks constants b_op.0 b_m.0 b_slot.0.0 b_operand.0 (lawful_ok p (word_operand_in version ds marks constants b_op.0 b_m.0 b_slot.0.0) b_operand.0 b_operand.1)).0 in
     let line : Instr = record { label = label_there marks n; op = b_op.0; modifier = b_m.0; operand = b_operand.0; arguments = [] } in
     let w : Word = record { content = contents.Instruction line; code = b_slot.0.0 } in
     let j = instruction_joins ds marks constants n bytes r0 b_letters.0.1 b_slot.0.1 code b_letters.0.0 b_op.0 b_m.0 b_operand.0 b_slot.0.0 t0 t1.0 t2.0 op-ok lt m-ok t1.1 operand-ok t2.1 in
@@ -464,18 +492,18 @@ number_of_field n number e =
     let lt : n < 8 = ltb-true n 8 y.0 in
     (sym is, subst (λ (k : ℕ). k < 8) is lt)
 
-argument_takes : (p : ℕ) (ds : Declarations) (marks : List Mark) (constants : List Value) (n code : ℕ) (side : Side) (bytes r0 : List ℕ) (x : Word × List ℕ) → Takes bytes (to_be_bytes w8 code) r0 → side_of code ≡ Some side
-    → argument_at p ds constants side r0 ≡ Ok x → Reads ds marks constants n bytes x
+argument_takes : (version : Version) (p : ℕ) (ds : Declarations) (marks : List Mark) (constants : List Value) (n code : ℕ) (side : Side) (bytes r0 : List ℕ) (x : Word × List ℕ) → Takes bytes (to_be_bytes w8 code) r0 → side_of code ≡ Some side
+    → argument_at version p ds constants side r0 ≡ Ok x → Reads ds marks constants n bytes x
 unfolding argument_at
-argument_takes p ds marks constants n code side bytes r0 x t0 side-ok e =
-    let b_number = bind_ok (number_at w8 r0) (λ number. lawful p (argument_number number.0) >>= λ field. number_at w16 number.1 >>= λ slot. lawful p (argument_operand ds constants slot.0) >>= λ operand. Ok (record { content = contents.Argument side field operand; code = slot.0 }, slot.1)) x e in
-    let b_field = bind_ok (lawful p (argument_number b_number.0.0)) (λ field. number_at w16 b_number.0.1 >>= λ slot. lawful p (argument_operand ds constants slot.0) >>= λ operand. Ok (record { content = contents.Argument side field operand; code = slot.0 }, slot.1)) x b_number.2 in
-    let b_slot = bind_ok (number_at w16 b_number.0.1) (λ slot. lawful p (argument_operand ds constants slot.0) >>= λ operand. Ok (record { content = contents.Argument side b_field.0 operand; code = slot.0 }, slot.1)) x b_field.2 in
-    let b_operand = bind_ok (lawful p (argument_operand ds constants b_slot.0.0)) (λ operand. Ok (record { content = contents.Argument side b_field.0 operand; code = b_slot.0.0 }, b_slot.0.1)) x b_slot.2 in
+argument_takes version p ds marks constants n code side bytes r0 x t0 side-ok e =
+    let b_number = bind_ok (number_at w8 r0) (λ number. lawful p (argument_number number.0) >>= λ field. number_at w16 number.1 >>= λ slot. lawful p (argument_operand_in version ds constants slot.0) >>= λ operand. Ok (record { content = contents.Argument side field operand; code = slot.0 }, slot.1)) x e in
+    let b_field = bind_ok (lawful p (argument_number b_number.0.0)) (λ field. number_at w16 b_number.0.1 >>= λ slot. lawful p (argument_operand_in version ds constants slot.0) >>= λ operand. Ok (record { content = contents.Argument side field operand; code = slot.0 }, slot.1)) x b_number.2 in
+    let b_slot = bind_ok (number_at w16 b_number.0.1) (λ slot. lawful p (argument_operand_in version ds constants slot.0) >>= λ operand. Ok (record { content = contents.Argument side b_field.0 operand; code = slot.0 }, slot.1)) x b_field.2 in
+    let b_operand = bind_ok (lawful p (argument_operand_in version ds constants b_slot.0.0)) (λ operand. Ok (record { content = contents.Argument side b_field.0 operand; code = b_slot.0.0 }, b_slot.0.1)) x b_slot.2 in
     let t1 = number_takes w8 (2 ^ 8) wide8 r0 b_number.0.0 b_number.0.1 t0.rest_fits b_number.1 in
     let t2 = number_takes w16 (2 ^ 16) wide16 b_number.0.1 b_slot.0.0 b_slot.0.1 t1.0.rest_fits b_slot.1 in
     let field-is = number_of_field b_number.0.0 b_field.0 (lawful_ok p (argument_number b_number.0.0) b_field.0 b_field.1) in
-    let operand-ok = lawful_ok p (argument_operand ds constants b_slot.0.0) b_operand.0 b_operand.1 in
+    let operand-ok = (argument_in_is version ds constants b_slot.0.0 b_operand.0 (lawful_ok p (argument_operand_in version ds constants b_slot.0.0) b_operand.0 b_operand.1)).0 in
     let s0 = subst (λ (k : ℕ). Takes bytes (to_be_bytes w8 k) r0) (sym (side_is code side side-ok)) t0 in
     let s1 = subst (λ (k : ℕ). Takes r0 (to_be_bytes w8 k) b_number.0.1) (sym field-is.0) t1.0 in
     let e12 = Takes-then r0 (to_be_bytes w8 b_field.0) b_number.0.1 (to_be_bytes w16 b_slot.0.0) b_slot.0.1 s1 t2.0 in
@@ -486,7 +514,7 @@ argument_takes p ds marks constants n code side bytes r0 x t0 side-ok e =
 word_takes_by : (version : Version) (p : ℕ) (ds : Declarations) (marks : List Mark) (constants : List Value) (n code : ℕ) (o : Option Side) (bytes r0 : List ℕ) (x : Word × List ℕ) → side_of code ≡ o → Takes bytes (to_be_bytes w8 code) r0 → code < 2 ^ 8
     → word_by version p ds marks constants n code o r0 ≡ Ok x → Reads ds marks constants n bytes x
 word_takes_by version p ds marks constants n code None bytes r0 x is t0 lt e = instruction_takes version p ds marks constants n code bytes r0 x t0 lt e
-word_takes_by version p ds marks constants n code (Some side) bytes r0 x is t0 lt e = argument_takes p ds marks constants n code side bytes r0 x t0 is e
+word_takes_by version p ds marks constants n code (Some side) bytes r0 x is t0 lt e = argument_takes version p ds marks constants n code side bytes r0 x t0 is e
 
 pub word_takes : (version : Version) (p : ℕ) (ds : Declarations) (marks : List Mark) (constants : List Value) (n : ℕ) (bytes : List ℕ) (x : Word × List ℕ) → IsBytes bytes → word_at version p ds marks constants n bytes ≡ Ok x
     → Takes bytes (read_word_bytes x.0) x.1 × IsRead ds marks constants n x.0.code x.0.content
@@ -496,20 +524,22 @@ word_takes version p ds marks constants n bytes x fits e =
     let t0 = number_takes w8 (2 ^ 8) wide8 bytes b_code.0.0 b_code.0.1 fits b_code.1 in
     word_takes_by version p ds marks constants n b_code.0.0 (side_of b_code.0.0) bytes b_code.0.1 x refl t0.0 t0.1 b_code.2
 
-instruction_again : (version : Version) (p : ℕ) (ds : Declarations) (marks : List Mark) (constants : List Value) (n code : ℕ) (line : Instr) (rest : List ℕ) → IsInstructionRead ds marks constants n code line → may_write version line ≡ true
+instruction_again : (version : Version) (p : ℕ) (ds : Declarations) (marks : List Mark) (constants : List Value) (n code : ℕ) (line : Instr) (rest : List ℕ) → IsInstructionRead ds marks constants n code line → (may_have version (op_version line.op) && may_name version line.operand) ≡ true
     → instruction_at version p ds marks constants n (op_code line.op) (to_be_bytes w8 (modifier_code line.modifier) ++ (to_be_bytes w16 code ++ rest)) ≡ Ok (record { content = contents.Instruction line; code = code }, rest)
 unfolding instruction_at
 instruction_again version p ds marks constants n code line rest is may =
     let k = is.coded in
-    rw (op_in_again version line.op may, number_again w8 (2 ^ 8) wide8 (modifier_code line.modifier) (to_be_bytes w16 code ++ rest) k.letters_small, k.letters, number_again w16 (2 ^ 16) wide16 code rest k.operand_small, k.operand_read, ← is.label, ← is.bare) refl
+    let m = and_yes (may_have version (op_version line.op)) (may_name version line.operand) may in
+    let operand = operand_in_again version ds marks constants line.op line.modifier code line.operand k.operand_read m.1 in
+    rw (op_in_again version line.op m.0, number_again w8 (2 ^ 8) wide8 (modifier_code line.modifier) (to_be_bytes w16 code ++ rest) k.letters_small, k.letters, number_again w16 (2 ^ 16) wide16 code rest k.operand_small, operand, ← is.label, ← is.bare) refl
 
-argument_again : (p : ℕ) (ds : Declarations) (constants : List Value) (code : ℕ) (side : Side) (number : ℕ) (operand : Operand) (rest : List ℕ) → IsArgumentRead ds constants number operand code
-    → argument_at p ds constants side (to_be_bytes w8 number ++ (to_be_bytes w16 code ++ rest)) ≡ Ok (record { content = contents.Argument side number operand; code = code }, rest)
+argument_again : (version : Version) (p : ℕ) (ds : Declarations) (constants : List Value) (code : ℕ) (side : Side) (number : ℕ) (operand : Operand) (rest : List ℕ) → IsArgumentRead ds constants number operand code → may_name version operand ≡ true
+    → argument_at version p ds constants side (to_be_bytes w8 number ++ (to_be_bytes w16 code ++ rest)) ≡ Ok (record { content = contents.Argument side number operand; code = code }, rest)
 unfolding argument_at
-argument_again p ds constants code side number operand rest is =
+argument_again version p ds constants code side number operand rest is may =
     let lt = is.number_read in
     let below : ltb number 8 ≡ true = lt-ltb number 8 lt in
-    rw (number_again w8 (2 ^ 8) wide8 number (to_be_bytes w16 code ++ rest) (omega arith), below, number_again w16 (2 ^ 16) wide16 code rest is.operand_small, is.operand_read) refl
+    rw (number_again w8 (2 ^ 8) wide8 number (to_be_bytes w16 code ++ rest) (omega arith), below, number_again w16 (2 ^ 16) wide16 code rest is.operand_small, argument_in_again version ds constants code operand is.operand_read may) refl
 
 content_again : (version : Version) (p : ℕ) (ds : Declarations) (marks : List Mark) (constants : List Value) (n code : ℕ) (content : Content) (rest : List ℕ) → IsRead ds marks constants n code content → may_say version content ≡ true
     → word_at version p ds marks constants n (content_bytes code content ++ rest) ≡ Ok (record { content = content; code = code }, rest)
@@ -521,7 +551,7 @@ content_again version p ds marks constants n code (contents.Instruction line) re
 content_again version p ds marks constants n code (contents.Argument side number operand) rest is may =
     let b1 = to_be_bytes w8 number in
     let b2 = to_be_bytes w16 code in
-    ap (word_at version p ds marks constants n) (regrouped_3 (to_be_bytes w8 (side_code side)) b1 b2 rest) ∙ rw (number_again w8 (2 ^ 8) wide8 (side_code side) (b1 ++ (b2 ++ rest)) (side_small side), side_again side) (argument_again p ds constants code side number operand rest is)
+    ap (word_at version p ds marks constants n) (regrouped_3 (to_be_bytes w8 (side_code side)) b1 b2 rest) ∙ rw (number_again w8 (2 ^ 8) wide8 (side_code side) (b1 ++ (b2 ++ rest)) (side_small side), side_again side) (argument_again version p ds constants code side number operand rest is may)
 
 pub word_again : (version : Version) (p : ℕ) (ds : Declarations) (marks : List Mark) (constants : List Value) (n : ℕ) (w : Word) (rest : List ℕ) → IsRead ds marks constants n w.code w.content → may_read version w ≡ true → word_at version p ds marks constants n (read_word_bytes w ++ rest) ≡ Ok (w, rest)
 word_again version p ds marks constants n w rest is may = content_again version p ds marks constants n w.code w.content rest is may

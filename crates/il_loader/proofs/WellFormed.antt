@@ -1,7 +1,7 @@
 -- The programs that have an image are the well-formed ones, and the loader's reading is one of images.
 use Rattle.std.proofs.Common.{◌≡◌, ℕ, zero, suc, ◌+◌, ◌<◌, ◌≤◌, ◌^◌, Bool, true, false, cond, ltb, List, [], ◌∷◌, ◌++◌, length, map, Option, Some, None, Ok, refl, sym, ap, subst, ◌∙◌, arith}
 use Rattle.std.specs.Prelude.{ℤ, pos, negsuc, slice_get, is_some, is_none, not, nat_eq, ◌&&◌, ◌||◌}
-use Rattle.std.specs.List.{position, AllByRecursion, filter_map, cons_option}
+use Rattle.std.specs.List.{position, AllByRecursion, filter_map, cons_option, flat_map, list_any}
 use Rattle.std.specs.Option.{option_map, option_and_then}
 use Rattle.std.proofs.lemmas.Bool.{ltb-true, ltb-false, lt-ltb, eqb-true, eq-eqb, false_from_ne_true}
 use Rattle.std.proofs.lemmas.Slice.Eq.{bytes_eq-Decides}
@@ -15,7 +15,9 @@ use Rattle.il_model.specs.declared.kind.BlockKind.{BlockKind}
 use Rattle.il_model.specs.declared.kind.Field.{Field}
 use Rattle.il_model.specs.declared.program.Area.{Area}
 use Rattle.il_model.specs.declared.program.Loc.{Loc}
-use Rattle.il_model.specs.declared.program.Loc.TheVariants.{Bit, Word}
+use Rattle.il_model.specs.declared.program.Loc.TheVariants.{Bit, Word, Double}
+use Rattle.il_model.specs.declared.program.DoubleType.{DoubleType}
+use Rattle.il_model.specs.declared.program.DoubleType.TheVariants as doubles
 use Rattle.il_model.specs.declared.program.Side.{Side}
 use Rattle.il_model.specs.declared.program.Side.TheVariants as sides
 use Rattle.il_model.specs.declared.program.Variable.{Variable}
@@ -36,7 +38,9 @@ use Rattle.il_model.specs.Operators.{is_zero}
 use Rattle.il_model.proofs.RealValues.{real_same}
 use Rattle.il_real.specs.Reals.{zero_real}
 use Rattle.il_model.specs.Words.{AreDistinct, same_name, is_lawful_name}
-use Rattle.il_model.specs.Locations.{area_of}
+use Rattle.il_model.specs.Locations.{area_of, begins_double, parts_of, is_nameable}
+use Rattle.il_model.specs.Doubles.{double_type}
+use Rattle.il_model.specs.Row.{same_type}
 use Rattle.il_model.specs.Kinds.{kind_fields, field_name, field_type}
 use Rattle.il_model.specs.Program.{Program, Declarations, declared_by}
 use Rattle.il_model.specs.Resolved.{variable_place, place_of, variable_number, instance_in, instance_number, numbered_field, field_of, target_of, source_of, called_kind}
@@ -46,13 +50,15 @@ use Rattle.il_model.specs.Marks.{Mark, with_mark, word_count, marks_from}
 use Rattle.il_model.specs.Constants.{constants_of}
 use Rattle.il_model.specs.CodedOperands.{loc_code, IsCell, any_loc, HasOwnCode, with_code}
 use Rattle.il_model.specs.Image.{location_code, modifier_code, operand_code}
-use Rattle.il_model.specs.Codes.{if_passes, length_of, is_number, is_new_name, is_type, has_code, is_taken, is_free, free_loc, coded_location, may_start_with, initial_of, is_known, usage_of, allowed_by, formed_by, has_form, modifier_of, variable_named, instance_named, field_named, named_operand, value_operand, label_there, target_name, is_jump, is_call, numbered_operand, is_empty}
+use Rattle.il_model.specs.Codes.{if_passes, length_of, is_number, is_new_name, is_type, has_code, is_taken, is_overlapped, is_free, free_loc, coded_location, may_start_with, initial_of, is_known, usage_of, allowed_by, formed_by, has_form, modifier_of, variable_named, instance_named, field_named, named_operand, value_operand, label_there, target_name, is_jump, is_call, numbered_operand, is_empty}
 use Rattle.il_model.specs.Fits as fitting
 use Rattle.il_model.specs.Fits.{AreItems, IsMark, IsConstant, IsPassing, IsWord, IsImage}
 use Rattle.il_model.specs.Lawful as lawful
 use Rattle.il_model.proofs.Positions.{position_first, position_later, not_in_front, found_last, position_past}
 use Rattle.il_model.proofs.CodedOperands.{loc_again, loc_small, coded_back, located_again}
 use Rattle.il_model.proofs.Declared.{map_some}
+use Rattle.il_model.proofs.LocationLaws.{double_fits}
+use Rattle.il_model.proofs.RowTypes.{same_type_is}
 use Rattle.il_model.proofs.Versions.{made_type, made_value}
 use Rattle.il_model.proofs.TypedLines.{IsArgumentOf, arguments_typed, no_arguments}
 use Rattle.il_model.proofs.Calls.{IsTypedLine, typed_lines}
@@ -234,9 +240,21 @@ word_there true area n t h e =
     subst (λ (u : Ty). IsThere u (Word area n)) is (record { cell = ltb-true n 64 h; suits = rw h refl })
 word_there false area n t h e = absurd cc
 
+own_type : (d : DoubleType) → same_type (double_type d) (double_type d) ≡ true
+own_type doubles.Dint = refl
+own_type doubles.Time = refl
+own_type doubles.Real = refl
+
+double_there : (b : Bool) (area : Area) (n : ℕ) (d : DoubleType) (t : Ty) → begins_double n ≡ b → cond b (Some (double_type d)) None ≡ Some t → IsThere t (Double area n d)
+double_there true area n d t h e =
+    let is : double_type d ≡ t = some_is (double_type d) t e in
+    subst (λ (u : Ty). IsThere u (Double area n d)) is (record { cell = h; suits = rw h (own_type d) })
+double_there false area n d t h e = absurd cc
+
 there : (loc : Loc) (t : Ty) → loc_type loc ≡ Some t → IsThere t loc
 there (Bit area n) t e = bit_there (ltb n 512) area n t refl e
 there (Word area n) t e = word_there (ltb n 64) area n t refl e
+there (Double area n d) t e = double_there (begins_double n) area n d t refl e
 
 cell_by : (o : Option Ty) (loc : Loc) → loc_type loc ≡ o → is_some o ≡ true → IsCell loc
 cell_by None loc e h = absurd cc
@@ -248,11 +266,11 @@ cell_of loc h = cell_by (loc_type loc) loc refl h
 typed_cell : (loc : Loc) → IsCell loc → is_some (loc_type loc) ≡ true
 typed_cell (Bit area n) lt = rw (lt-ltb n 512 lt) refl
 typed_cell (Word area n) lt = rw (lt-ltb n 64 lt) refl
+typed_cell (Double area n d) cell = rw cell refl
 
 suits_is : (t : Ty) (o : Option Ty) → is_type t o ≡ true → o ≡ Some t
-suits_is types.Bool (Some types.Bool) e = refl
-suits_is types.Int (Some types.Int) e = refl
-suits_is _ _ e = absurd cc
+suits_is t (Some u) e = ap (λ (x : Ty). Some x) (sym (same_type_is t u e))
+suits_is t None e = absurd cc
 
 same_cell : (l loc : Loc) → IsCell l → IsCell loc → loc_code l ≡ loc_code loc → l ≡ loc
 same_cell l loc cell other e = some_is l loc (sym (loc_again l cell) ∙ ap any_loc e ∙ loc_again loc other)
@@ -260,13 +278,13 @@ same_cell l loc cell other e = some_is l loc (sym (loc_again l cell) ∙ ap any_
 -- what a location of an image is
 record IsLocated (seen : List Variable) (t : Ty) (loc : Loc) : Type 0 where
   type : loc_type loc ≡ Some t
-  free : is_taken seen (loc_code loc) ≡ false
+  free : is_overlapped seen loc ≡ false
 
 located_by : (seen : List Variable) (t : Ty) (x : CodedOperand) (loc : Loc) → free_loc seen t x ≡ Some (Some loc) → IsLocated seen t loc
 located_by seen t (coded.Location l) loc e =
     let m = passes (is_free seen t l) (Some l) (Some loc) e in
-    let a = both_true (is_type t (loc_type l)) (not (is_taken seen (loc_code l))) m.0 in
-    subst (IsLocated seen t) (some_is l loc m.1) (record { type = suits_is t (loc_type l) a.0; free = not_true (is_taken seen (loc_code l)) a.1 })
+    let a = both_true (is_type t (loc_type l)) (not (is_overlapped seen l)) m.0 in
+    subst (IsLocated seen t) (some_is l loc m.1) (record { type = suits_is t (loc_type l) a.0; free = not_true (is_overlapped seen l) a.1 })
 located_by seen t (coded.Variable i) loc e = absurd cc
 located_by seen t (coded.Field i n) loc e = absurd cc
 located_by seen t (coded.Constant k) loc e = absurd cc
@@ -328,15 +346,40 @@ no_start false v t is e h = zero_value v e ∙ ap zero_of is
 
 -- ---- variables
 
--- no variable before has its name, or its location
+-- the bits and words at which a variable lies
+abbrev parts_at : Option Loc → List Loc
+parts_at None = []
+parts_at (Some loc) = parts_of loc
+
+-- none of them is one of the others
+abbrev AreDisjoint : List Loc → List Loc → Type 0
+AreDisjoint xs ys = AllByRecursion (λ x. AllByRecursion (IsNot x) ys) xs
+
+-- no variable lies at one of them
+abbrev AreUntaken : List Variable → List Loc → Type 0
+AreUntaken seen parts = AllByRecursion (λ (part : Loc). is_taken seen (loc_code part) ≡ false) parts
+
+-- no variable before has its name, or lies where it does
 record IsFreeVariable (seen : List Variable) (v : Variable) : Type 0 where
   name : is_some (is_number seen v.name) ≡ false
-  location : (loc : Loc) → v.location ≡ Some loc → is_taken seen (loc_code loc) ≡ false
+  location : AreUntaken seen (parts_at v.location)
 
--- two variables have neither one name nor one location
+-- two variables have neither one name nor one bit or word
 record AreOther (v w : Variable) : Type 0 where
   names : v.name ≡ w.name → ⊥
-  locations : (loc : Loc) → v.location ≡ Some loc → w.location ≡ Some loc → ⊥
+  locations : AreDisjoint (parts_at v.location) (parts_at w.location)
+
+any_false : {X : Type 0} (p : X → Bool) (xs : List X) → AllByRecursion (λ x. p x ≡ false) xs → list_any p xs ≡ false
+any_false p [] all = refl
+any_false p (x ∷ xs) all = rw all.0 (any_false p xs all.1)
+
+neither : (a b : Bool) → (a || b) ≡ false → (a ≡ false) × (b ≡ false)
+neither true b e = absurd cc
+neither false b e = (refl, e)
+
+false_any : {X : Type 0} (p : X → Bool) (xs : List X) → list_any p xs ≡ false → AllByRecursion (λ x. p x ≡ false) xs
+false_any p [] e = tt
+false_any p (x ∷ xs) e = let m = neither (p x) (list_any p xs) e in (m.0, false_any p xs m.1)
 
 abbrev is_called : List ℕ → Variable → Bool
 is_called name v = same_name v.name name
@@ -348,7 +391,8 @@ located_again_by : (seen : List Variable) (v : Variable) (o : Option Loc) → v.
 located_again_by seen v None e is free = (refl, omega arith)
 located_again_by seen v (Some loc) e is free =
     let at = there loc v.ty (is.location loc e).type in
-    (located_again seen v.ty loc at.cell at.suits (free.location loc e), omega (arith, loc_small loc at.cell))
+    let untaken : AreUntaken seen (parts_of loc) = subst (λ (o : Option Loc). AreUntaken seen (parts_at o)) e free.location in
+    (located_again seen v.ty loc at.cell at.suits (any_false (λ (part : Loc). is_taken seen (loc_code part)) (parts_of loc) untaken), omega (arith, loc_small loc at.cell))
 
 variable_new : (seen : List Variable) (v : Variable) → IsVariable v → IsFreeVariable seen v → fitting.IsVariable seen v
 variable_new seen v is free =
@@ -363,40 +407,78 @@ variable_new seen v is free =
       initial = again (may_start_with v.location) (typed_value v.ty (number_of v.initial)) v.initial made (may_start v v.location is.location);
     }
 
-no_code : (o : Option Loc) (loc : Loc) → IsCell loc → ((l : Loc) → o ≡ Some l → IsCell l) → ((l : Loc) → o ≡ Some l → l ≡ loc → ⊥) → has_code (loc_code loc) o ≡ false
-no_code None loc cell cells other = refl
-no_code (Some l) loc cell cells other = false_from_ne_true (nat_eq (loc_code l) (loc_code loc)) (λ e. other l refl (same_cell l loc (cells l refl) cell (eqb-true (loc_code l) (loc_code loc) e)))
+has_code_parts : (n : ℕ) (o : Option Loc) → has_code n o ≡ list_any (λ (part : Loc). nat_eq (loc_code part) n) (parts_at o)
+has_code_parts n None = refl
+has_code_parts n (Some loc) = refl
 
-cell_at : (v : Variable) → IsVariable v → (loc : Loc) → v.location ≡ Some loc → IsCell loc
-cell_at v is loc e = (there loc v.ty (is.location loc e).type).cell
+no_code_in : (qs : List Loc) (part : Loc) → IsCell part → AllByRecursion IsCell qs → AllByRecursion (λ (q : Loc). q ≡ part → ⊥) qs → AllByRecursion (λ (q : Loc). nat_eq (loc_code q) (loc_code part) ≡ false) qs
+no_code_in [] part cell cells other = tt
+no_code_in (q ∷ qs) part cell cells other =
+    (false_from_ne_true (nat_eq (loc_code q) (loc_code part)) (λ e. other.0 (same_cell q part cells.0 cell (eqb-true (loc_code q) (loc_code part) e))), no_code_in qs part cell cells.1 other.1)
+
+no_code : (o : Option Loc) (part : Loc) → IsCell part → AllByRecursion IsCell (parts_at o) → AllByRecursion (λ (q : Loc). q ≡ part → ⊥) (parts_at o) → has_code (loc_code part) o ≡ false
+no_code o part cell cells other = has_code_parts (loc_code part) o ∙ any_false (λ (q : Loc). nat_eq (loc_code q) (loc_code part)) (parts_at o) (no_code_in (parts_at o) part cell cells other)
+
+parts_cells : (loc : Loc) → IsCell loc → AllByRecursion IsCell (parts_of loc)
+parts_cells (Bit a n) lt = (lt, tt)
+parts_cells (Word a n) lt = (lt, tt)
+parts_cells (Double a n d) cell = let lt = double_fits n cell in (omega (arith, lt), (lt, tt))
+
+cells_by : (o : Option Loc) → ((loc : Loc) → o ≡ Some loc → IsCell loc) → AllByRecursion IsCell (parts_at o)
+cells_by None cells = tt
+cells_by (Some loc) cells = parts_cells loc (cells loc refl)
+
+cells_at : (v : Variable) → IsVariable v → AllByRecursion IsCell (parts_at v.location)
+cells_at v is = cells_by v.location (λ loc e. (there loc v.ty (is.location loc e).type).cell)
+
+still_untaken : (seen : List Variable) (y : Variable) (ps : List Loc) → AllByRecursion IsCell ps → AllByRecursion IsCell (parts_at y.location) → AreUntaken seen ps → AreDisjoint (parts_at y.location) ps → AreUntaken (seen ++ y ∷ []) ps
+still_untaken seen y [] cells y-cells free apart = tt
+still_untaken seen y (p ∷ ps) cells y-cells free apart = (
+  ap is_some (position_past (lies_at (loc_code p)) seen y (no_code y.location p cells.0 y-cells (all_map (λ (q : Loc). AllByRecursion (IsNot q) (p ∷ ps)) (λ (q : Loc). q ≡ p → ⊥) (λ q h. h.0) (parts_at y.location) apart))) ∙ free.0,
+  still_untaken seen y ps cells.1 y-cells free.1 (all_map (λ (q : Loc). AllByRecursion (IsNot q) (p ∷ ps)) (λ (q : Loc). AllByRecursion (IsNot q) ps) (λ q h. h.1) (parts_at y.location) apart),
+)
 
 -- a variable that differs from one more before it
 variable_next : (seen : List Variable) (y v : Variable) → IsVariable y → IsVariable v → IsFreeVariable seen v → AreOther y v → IsFreeVariable (seen ++ y ∷ []) v
 variable_next seen y v is-y is free other = record {
   name = ap is_some (position_past (is_called v.name) seen y (other_name y.name v.name other.names)) ∙ free.name;
-  location = λ loc e.
-      ap is_some (position_past (lies_at (loc_code loc)) seen y (no_code y.location loc (cell_at v is loc e) (cell_at y is-y) (λ l at same. other.locations loc (at ∙ ap (λ (x : Loc). Some x) same) e)))
-      ∙ free.location loc e;
+  location = still_untaken seen y (parts_at v.location) (cells_at v is) (cells_at y is-y) free.location other.locations;
 }
 
 variable_free : (seen : List Variable) (v : Variable) → fitting.IsVariable seen v → IsFreeVariable seen v
 variable_free seen v is = record {
   name = not_true (is_some (is_number seen v.name)) (both_true (is_lawful_name v.name) (not (is_some (is_number seen v.name))) is.name).1;
-  location = λ loc e. (located_is seen v.ty loc (subst (λ (o : Option Loc). coded_location seen v.ty (location_code o) ≡ Some o) e is.location)).free;
+  location = free_by v.location refl;
 }
+  where
+    free_by : (o : Option Loc) → v.location ≡ o → AreUntaken seen (parts_at o)
+    free_by None e = tt
+    free_by (Some loc) e = false_any (λ (part : Loc). is_taken seen (loc_code part)) (parts_of loc) (located_is seen v.ty loc (subst (λ (o : Option Loc). coded_location seen v.ty (location_code o) ≡ Some o) e is.location)).free
 
-own_code : (o : Option Loc) (loc : Loc) → o ≡ Some loc → has_code (loc_code loc) o ≡ true
-own_code o loc e = ap (has_code (loc_code loc)) e ∙ eq-eqb (loc_code loc) (loc_code loc) refl
+-- what holds of each pair
+transposed : {X Y : Type 0} (R : X → Y → Type 0) (xs : List X) (ys : List Y) → AllByRecursion (λ (y : Y). AllByRecursion (λ (x : X). R x y) xs) ys → AllByRecursion (λ (x : X). AllByRecursion (λ (y : Y). R x y) ys) xs
+transposed R [] ys all = tt
+transposed {X} {Y} R (x ∷ xs) ys all = (
+  all_map (λ (y : Y). AllByRecursion (λ (z : X). R z y) (x ∷ xs)) (λ (y : Y). R x y) (λ y h. h.0) ys all,
+  transposed R xs ys (all_map (λ (y : Y). AllByRecursion (λ (z : X). R z y) (x ∷ xs)) (λ (y : Y). AllByRecursion (λ (z : X). R z y) xs) (λ y h. h.1) ys all),
+)
+
+-- no part of y is the part, where y doesn't lie at its code
+not_there : (y : Variable) (part : Loc) → has_code (loc_code part) y.location ≡ false → AllByRecursion (λ (q : Loc). q ≡ part → ⊥) (parts_at y.location)
+not_there y part e =
+    let none = false_any (λ (q : Loc). nat_eq (loc_code q) (loc_code part)) (parts_at y.location) (sym (has_code_parts (loc_code part) y.location) ∙ e) in
+    all_map (λ (q : Loc). nat_eq (loc_code q) (loc_code part) ≡ false) (λ (q : Loc). q ≡ part → ⊥) (λ q h is. clash (nat_eq (loc_code q) (loc_code part)) (eq-eqb (loc_code q) (loc_code part) (ap loc_code is)) h) (parts_at y.location) none
 
 variable_back : (seen : List Variable) (y v : Variable) → IsFreeVariable (seen ++ y ∷ []) v → IsFreeVariable seen v × AreOther y v
 variable_back seen y v free = (
   record {
     name = not_in_front (is_called v.name) seen (y ∷ []) free.name;
-    location = λ loc e. not_in_front (lies_at (loc_code loc)) seen (y ∷ []) (free.location loc e);
+    location = all_map (λ (part : Loc). is_taken (seen ++ y ∷ []) (loc_code part) ≡ false) (λ (part : Loc). is_taken seen (loc_code part) ≡ false) (λ part h. not_in_front (lies_at (loc_code part)) seen (y ∷ []) h) (parts_at v.location) free.location;
   },
   record {
     names = not_same y.name v.name (last_not (is_called v.name) seen y free.name);
-    locations = λ loc at e. clash (has_code (loc_code loc) y.location) (own_code y.location loc at) (last_not (lies_at (loc_code loc)) seen y (free.location loc e));
+    locations = transposed (λ (q part : Loc). q ≡ part → ⊥) (parts_at y.location) (parts_at v.location)
+        (all_map (λ (part : Loc). is_taken (seen ++ y ∷ []) (loc_code part) ≡ false) (λ (part : Loc). AllByRecursion (λ (q : Loc). q ≡ part → ⊥) (parts_at y.location)) (λ part h. not_there y part (last_not (lies_at (loc_code part)) seen y h)) (parts_at v.location) free.location);
   },
 )
 
@@ -422,32 +504,39 @@ name_of v = v.name
 abbrev location_of : Variable → Option Loc
 location_of v = v.location
 
-others_apart : (v : Variable) (vs : List Variable) → AllByRecursion (IsNot v.name) (map name_of vs) → ((loc : Loc) → v.location ≡ Some loc → AllByRecursion (IsNot loc) (filter_map location_of vs)) → AllByRecursion (AreOther v) vs
-others_apart v [] names locations = tt
-others_apart v (w ∷ vs) names locations = (
-  record { names = names.0; locations = λ loc e f. here w.location loc f (locations loc e) },
-  others_apart v vs names.1 (λ loc e. behind w.location loc (locations loc e)),
+-- the bits and words of all
+abbrev all_parts : List Variable → List Loc
+all_parts vs = flat_map parts_of (filter_map location_of vs)
+
+parts_first : (o : Option Loc) (locs : List Loc) → flat_map parts_of (cons_option o locs) ≡ parts_at o ++ flat_map parts_of locs
+parts_first None locs = refl
+parts_first (Some loc) locs = refl
+
+disjoint_front : (xs ys zs : List Loc) → AreDisjoint xs (ys ++ zs) → AreDisjoint xs ys × AreDisjoint xs zs
+disjoint_front xs ys zs all = (
+  all_map (λ (x : Loc). AllByRecursion (IsNot x) (ys ++ zs)) (λ (x : Loc). AllByRecursion (IsNot x) ys) (λ x h. (all_front (IsNot x) ys zs h).0) xs all,
+  all_map (λ (x : Loc). AllByRecursion (IsNot x) (ys ++ zs)) (λ (x : Loc). AllByRecursion (IsNot x) zs) (λ x h. (all_front (IsNot x) ys zs h).1) xs all,
 )
-  where
-    here : (o : Option Loc) (loc : Loc) → o ≡ Some loc → AllByRecursion (IsNot loc) (cons_option o (filter_map location_of vs)) → ⊥
-    here None loc f all = absurd cc
-    here (Some l) loc f all = all.0 (sym (some_is l loc f))
 
-    behind : (o : Option Loc) (loc : Loc) → AllByRecursion (IsNot loc) (cons_option o (filter_map location_of vs)) → AllByRecursion (IsNot loc) (filter_map location_of vs)
-    behind None loc all = all
-    behind (Some l) loc all = all.1
+disjoint_both : (xs ys zs : List Loc) → AreDisjoint xs ys → AreDisjoint xs zs → AreDisjoint xs (ys ++ zs)
+disjoint_both [] ys zs a b = tt
+disjoint_both (x ∷ xs) ys zs a b = (all_both (IsNot x) ys zs a.0 b.0, disjoint_both xs ys zs a.1 b.1)
 
-variables_apart : (vs : List Variable) → AreDistinct (map name_of vs) → AreDistinct (filter_map location_of vs) → Apart AreOther vs
+disjoint_none : (xs : List Loc) → AreDisjoint xs []
+disjoint_none [] = tt
+disjoint_none (x ∷ xs) = (tt, disjoint_none xs)
+
+others_apart : (v : Variable) (vs : List Variable) → AllByRecursion (IsNot v.name) (map name_of vs) → AreDisjoint (parts_at v.location) (all_parts vs) → AllByRecursion (AreOther v) vs
+others_apart v [] names apart = tt
+others_apart v (w ∷ vs) names apart =
+    let split = disjoint_front (parts_at v.location) (parts_at w.location) (all_parts vs) (subst (AreDisjoint (parts_at v.location)) (parts_first w.location (filter_map location_of vs)) apart) in
+    (record { names = names.0; locations = split.0 }, others_apart v vs names.1 split.1)
+
+variables_apart : (vs : List Variable) → AreDistinct (map name_of vs) → AreDistinct (all_parts vs) → Apart AreOther vs
 variables_apart [] names locations = tt
-variables_apart (v ∷ vs) names locations = (others_apart v vs names.0 (λ loc e. of_first v.location loc e locations), variables_apart vs names.1 (without v.location locations))
-  where
-    of_first : (o : Option Loc) (loc : Loc) → o ≡ Some loc → AreDistinct (cons_option o (filter_map location_of vs)) → AllByRecursion (IsNot loc) (filter_map location_of vs)
-    of_first None loc e are = absurd cc
-    of_first (Some l) loc e are = subst (λ (x : Loc). AllByRecursion (IsNot x) (filter_map location_of vs)) (some_is l loc e) are.0
-
-    without : (o : Option Loc) → AreDistinct (cons_option o (filter_map location_of vs)) → AreDistinct (filter_map location_of vs)
-    without None are = are
-    without (Some l) are = are.1
+variables_apart (v ∷ vs) names locations =
+    let split = distinct_parts (parts_at v.location) (all_parts vs) (subst (λ (parts : List Loc). AreDistinct parts) (parts_first v.location (filter_map location_of vs)) locations) in
+    (others_apart v vs names.0 split.across, variables_apart vs names.1 split.second)
 
 names_apart : (v : Variable) (vs : List Variable) → AllByRecursion (AreOther v) vs → AllByRecursion (IsNot v.name) (map name_of vs)
 names_apart v [] all = tt
@@ -457,25 +546,41 @@ apart_names : (vs : List Variable) → Apart AreOther vs → AreDistinct (map na
 apart_names [] are = tt
 apart_names (v ∷ vs) are = (names_apart v vs are.0, apart_names vs are.1)
 
-locations_apart : (v : Variable) (loc : Loc) (vs : List Variable) → v.location ≡ Some loc → AllByRecursion (AreOther v) vs → AllByRecursion (IsNot loc) (filter_map location_of vs)
-locations_apart v loc [] e all = tt
-locations_apart v loc (w ∷ vs) e all = joined w.location refl (locations_apart v loc vs e all.1)
-  where
-    joined : (o : Option Loc) → w.location ≡ o → AllByRecursion (IsNot loc) (filter_map location_of vs) → AllByRecursion (IsNot loc) (cons_option o (filter_map location_of vs))
-    joined None f more = more
-    joined (Some l) f more = ((λ same. all.0.locations loc e (f ∙ ap (λ (x : Loc). Some x) (sym same))), more)
+locations_apart : (v : Variable) (vs : List Variable) → AllByRecursion (AreOther v) vs → AreDisjoint (parts_at v.location) (all_parts vs)
+locations_apart v [] all = disjoint_none (parts_at v.location)
+locations_apart v (w ∷ vs) all =
+    subst (AreDisjoint (parts_at v.location)) (sym (parts_first w.location (filter_map location_of vs)))
+    (disjoint_both (parts_at v.location) (parts_at w.location) (all_parts vs) all.0.locations (locations_apart v vs all.1))
 
-apart_locations : (vs : List Variable) → Apart AreOther vs → AreDistinct (filter_map location_of vs)
+-- the number of a location
+abbrev number_at : Loc → ℕ
+number_at (Bit a n) = n
+number_at (Word a n) = n
+number_at (Double a n d) = n
+
+-- a double word is two words
+two_words : (a : Area) (n : ℕ) → IsNot (Word a n) (Word a (suc n))
+two_words a n e = let is : n ≡ suc n = ap number_at e in absurd (omega (arith, is))
+
+own_distinct : (o : Option Loc) → AreDistinct (parts_at o)
+own_distinct None = tt
+own_distinct (Some (Bit a n)) = (tt, tt)
+own_distinct (Some (Word a n)) = (tt, tt)
+own_distinct (Some (Double a n d)) = ((two_words a n, tt), (tt, tt))
+
+apart_locations : (vs : List Variable) → Apart AreOther vs → AreDistinct (all_parts vs)
 apart_locations [] are = tt
-apart_locations (v ∷ vs) are = joined v.location refl (apart_locations vs are.1)
-  where
-    joined : (o : Option Loc) → v.location ≡ o → AreDistinct (filter_map location_of vs) → AreDistinct (cons_option o (filter_map location_of vs))
-    joined None e more = more
-    joined (Some loc) e more = (locations_apart v loc vs e are.0, more)
+apart_locations (v ∷ vs) are =
+    subst (λ (parts : List Loc). AreDistinct parts) (sym (parts_first v.location (filter_map location_of vs)))
+    (parts_distinct (parts_at v.location) (all_parts vs) (record { first = own_distinct v.location; second = apart_locations vs are.1; across = locations_apart v vs are.0 }))
+
+untaken_none : (ps : List Loc) → AreUntaken [] ps
+untaken_none [] = tt
+untaken_none (p ∷ ps) = (refl, untaken_none ps)
 
 none_free : (vs : List Variable) → AllByRecursion (IsFreeVariable []) vs
 none_free [] = tt
-none_free (v ∷ vs) = (record { name = refl; location = λ loc e. refl }, none_free vs)
+none_free (v ∷ vs) = (record { name = refl; location = untaken_none (parts_at v.location) }, none_free vs)
 
 -- ---- instances
 
@@ -591,7 +696,7 @@ operand_lawful Q (operands.Bare z) src is e = tt
 operand_lawful Q (operands.Variable name) src is e =
     let place = map_some (place_of Q name) sources.Of src e in
     bound_some (variable_number Q name) (λ i. option_map (variable_place i) (slice_get Q.variables i)) place.0 place.1
-operand_lawful Q (operands.Direct loc) src is e = cell_of loc is
+operand_lawful Q (operands.Direct loc) src is e = (cell_of loc is.0, is.1)
 operand_lawful Q (operands.Label name) src is e = tt
 operand_lawful Q (operands.Field name field) src is e =
     let place = map_some (field_of Q name field) sources.Of src e in
@@ -703,7 +808,9 @@ field_read None n o e = absurd cc
 field_read (Some x) n o e = mapped_is IsOperand (slice_get (kind_fields x.kind) n) (λ (f : Field). operands.Field x.name (field_name f)) o (λ f there. tt) e
 
 named_read : (ds : Declarations) (constants : List Value) (x : CodedOperand) (o : Operand) → AllByRecursion IsInRange constants → HasOwnCode x → named_operand ds constants x ≡ Some o → IsOperand o
-named_read ds constants (coded.Location loc) o all own e = subst IsOperand (some_is (operands.Direct loc) o e) (typed_cell loc own)
+named_read ds constants (coded.Location loc) o all own e =
+    let m = passes (is_nameable loc) (operands.Direct loc) o e in
+    subst IsOperand m.1 (typed_cell loc own, m.0)
 named_read ds constants (coded.Variable i) o all own e = variable_read (slice_get ds.variables i) o e
 named_read ds constants (coded.Field i n) o all own e = field_read (slice_get ds.instances i) n o e
 named_read ds constants (coded.Constant k) o all own e = mapped_is IsOperand (slice_get constants k) operands.Literal o (λ v there. all_there IsInRange constants k v there all) e

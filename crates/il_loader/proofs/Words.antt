@@ -1,5 +1,5 @@
 -- What the operand of a word that was read is, and that its number is found again.
-use Rattle.std.proofs.Common.{◌≡◌, ℕ, zero, suc, ◌+◌, ◌-◌, Bool, true, false, cond, eqb, List, [], ◌∷◌, ◌++◌, length, take, drop, Option, Some, None, refl, sym, ap, subst, ◌∙◌, append_assoc}
+use Rattle.std.proofs.Common.{◌≡◌, ℕ, zero, suc, Bool, true, false, cond, eqb, List, [], ◌∷◌, ◌++◌, length, take, drop, Option, Some, None, refl, sym, ap, subst, ◌∙◌, append_assoc}
 use Rattle.std.specs.Prelude.{slice_get, is_some, not, ◌&&◌}
 use Rattle.std.specs.List.{position}
 use Rattle.std.specs.Option.{option_map, option_and_then}
@@ -18,6 +18,7 @@ use Rattle.il_model.specs.declared.coded_operand.CodedOperand.{CodedOperand}
 use Rattle.il_model.specs.declared.coded_operand.CodedOperand.TheVariants as coded
 use Rattle.il_model.specs.declared.program.Variable.{Variable}
 use Rattle.il_model.specs.declared.program.Instance.{Instance}
+use Rattle.il_model.specs.declared.program.Loc.{Loc}
 use Rattle.il_model.specs.declared.program.Operand.{Operand}
 use Rattle.il_model.specs.declared.program.Operand.TheVariants as operands
 use Rattle.il_model.specs.declared.fetched.Source.{Source}
@@ -25,6 +26,7 @@ use Rattle.il_model.specs.declared.fetched.Source.TheVariants as sources
 use Rattle.il_model.specs.declared.codes.OperandForm.TheVariants as forms
 use Rattle.il_model.specs.Kinds.{kind_fields, field_name, field_number}
 use Rattle.il_model.specs.Words.{same_name, is_lawful_name}
+use Rattle.il_model.specs.Locations.{is_nameable}
 use Rattle.il_model.specs.Program.{Program, Declarations, declared_by}
 use Rattle.il_model.specs.Resolved.{instance_in, field_in, target_of, source_of}
 use Rattle.il_model.specs.Marks.{Mark, address_of}
@@ -263,8 +265,12 @@ constant_again Q cs k (Some v) o apart here e =
     let is : operands.Literal v ≡ o = cc in
     ap (operand_code Q cs) (sym is) ∙ ap (λ (p : Option ℕ). code_of (numbered coded.Constant p)) (place_again cs k v apart here)
 
+location_again : (Q : Program) (cs : List Value) (loc : Loc) (b : Bool) (o : Operand) → cond b (Some (operands.Direct loc)) None ≡ Some o → operand_code Q cs o ≡ code_of (coded.Location loc)
+location_again Q cs loc true o e = let is : operands.Direct loc ≡ o = cc in sym (ap (operand_code Q cs) is)
+location_again Q cs loc false o e = absurd cc
+
 named_again : (Q : Program) (ms : List Mark) (cs : List Value) (x : CodedOperand) (o : Operand) → AreKnown Q ms cs → named_operand (declared_by Q) cs x ≡ Some o → operand_code Q cs o ≡ code_of x
-named_again Q ms cs (coded.Location loc) o known e = let is : operands.Direct loc ≡ o = cc in sym (ap (operand_code Q cs) is)
+named_again Q ms cs (coded.Location loc) o known e = location_again Q cs loc (is_nameable loc) o e
 named_again Q ms cs (coded.Variable i) o known e = variable_again Q cs i (slice_get Q.variables i) o known.variables refl e
 named_again Q ms cs (coded.Field i n) o known e = field_again Q cs i n (slice_get Q.instances i) o known.instances refl e
 named_again Q ms cs (coded.Constant k) o known e = constant_again Q cs k (slice_get cs k) o known.apart refl e
@@ -324,12 +330,16 @@ no_field : (x : Option Instance) (n : ℕ) (v : Value) → field_named x n ≡ S
 no_field None n v e = cc
 no_field (Some x) n v e = no_field_by x (slice_get (kind_fields x.kind) n) v e
 
+no_location : (loc : Loc) (b : Bool) (v : Value) → cond b (Some (operands.Direct loc)) None ≡ Some (operands.Literal v) → ⊥
+no_location loc true v e = cc
+no_location loc false v e = cc
+
 literal_is : (c : Option Value) (v : Value) → option_map operands.Literal c ≡ Some (operands.Literal v) → c ≡ Some v
 literal_is None v e = absurd cc
 literal_is (Some c) v e = let is : c ≡ v = cc in ap (λ (x : Value). Some x) is
 
 literal_under : (ds : Declarations) (cs : List Value) (n : ℕ) (v : Value) (x : CodedOperand) → with_code n ≡ Some x → named_operand ds cs x ≡ Some (operands.Literal v) → IsConstantAt cs n v
-literal_under ds cs n v (coded.Location loc) code e = absurd cc
+literal_under ds cs n v (coded.Location loc) code e = absurd (no_location loc (is_nameable loc) v e)
 literal_under ds cs n v (coded.Variable i) code e = absurd (no_variable (slice_get ds.variables i) v e)
 literal_under ds cs n v (coded.Field i k) code e = absurd (no_field (slice_get ds.instances i) k v e)
 literal_under ds cs n v (coded.Constant k) code e = record { number = k; code = code; there = literal_is (slice_get cs k) v e }

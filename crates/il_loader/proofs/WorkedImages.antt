@@ -1,5 +1,5 @@
 -- Worked rows of well-formed programs, of others, and of what is read of bytes, by computing the definitions.
-use Rattle.std.proofs.Common.{◌≡◌, ◌≤◌, ℕ, zero, suc, Bool, true, false, List, [], ◌∷◌, Option, Some, None, Ok, refl, sym, ap, subst, ◌∙◌, arith}
+use Rattle.std.proofs.Common.{◌≡◌, ◌≤◌, ℕ, zero, suc, true, false, List, [], ◌∷◌, Option, Some, None, Ok, refl, sym, ap, subst, ◌∙◌, arith}
 use Rattle.std.specs.Prelude.{pos, codes, get_or}
 use Rattle.il_model.specs.declared.value.Value.{Value}
 use Rattle.il_model.specs.declared.value.Value.TheVariants as values
@@ -24,7 +24,7 @@ use Rattle.il_model.proofs.Judged.{is_typed, faultless}
 use Rattle.il_loader.specs.Images.{IsName, MayLieAt, IsVariable, IsInstruction, IsWellFormed, Reading, AreBytes, ReadsImages}
 
 abbrev variable : List ℕ → Ty → Option Loc → Value → Variable
-variable name type loc first = record { name = name; ty = type; location = loc; initial = first }
+variable name type loc first = record { name = name; ty = type; location = loc; initial = first; retained = false }
 
 abbrev line : Op → Modifier → Operand → Instr
 line op m operand = record { label = None; op = op; modifier = m; operand = operand; arguments = [] }
@@ -117,7 +117,7 @@ bit name = variable name types.Bool None (values.Bool false)
 doubled_name : IsWellFormed (declaring (bit (codes "A") ∷ bit (codes "A") ∷ []) []) → ⊥
 doubled_name is = is.names.0.0 refl
 
-shared_name : IsWellFormed (declaring (bit (codes "A") ∷ []) (record { name = codes "A"; kind = kinds.Ton } ∷ [])) → ⊥
+shared_name : IsWellFormed (declaring (bit (codes "A") ∷ []) (record { name = codes "A"; kind = kinds.Ton; retained = false } ∷ [])) → ⊥
 shared_name is = is.names.0.0 refl
 
 -- two variables at one location, another one between them

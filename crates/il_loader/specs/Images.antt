@@ -1,6 +1,6 @@
 -- Which programs have an image, and what it is to read images: from the bytes of one its program, and from others none.
 use Rattle.std.specs.Prelude.{◌≡◌, ◌<◌, ◌≤◌, ℕ, false, true, List, ◌++◌, length, map, get_or, Some, is_some, Result, Ok}
-use Rattle.std.specs.List.{AllByRecursion, filter_map}
+use Rattle.std.specs.List.{AllByRecursion, filter_map, flat_map}
 use Rattle.il_model.specs.declared.limits.TheConstants.{LONGEST_NAME}
 use Rattle.il_model.specs.declared.value.Value.{Value}
 use Rattle.il_model.specs.declared.program.Loc.{Loc}
@@ -12,7 +12,7 @@ use Rattle.il_model.specs.declared.op.Op.TheVariants as ops
 use Rattle.il_model.specs.declared.program.Operand.TheVariants as operands
 use Rattle.il_model.specs.Values.{ty_of, zero_of, number_of, typed_value}
 use Rattle.il_model.specs.Words.{AreDistinct, is_lawful_name}
-use Rattle.il_model.specs.Locations.{area_of}
+use Rattle.il_model.specs.Locations.{area_of, parts_of, is_nameable}
 use Rattle.il_model.specs.Program.{Program, IsSmall}
 use Rattle.il_model.specs.Typing.{loc_type, is_writable_area, IsTyped}
 use Rattle.il_model.specs.Constants.{operands_in}
@@ -46,10 +46,10 @@ pub record IsVariable (v : Variable) : Type 0 where
   pub range : IsInRange v.initial
   pub location : (loc : Loc) → v.location ≡ Some loc → MayLieAt v loc
 
--- a literal in its range, a location that is there; that what is named is declared, typing says
+-- a literal in its range, a location that is there and can be named; that what is named is declared, typing says
 abbrev pub IsOperand : Operand → Type 0
 IsOperand (operands.Literal v) = IsInRange v
-IsOperand (operands.Direct loc) = is_some (loc_type loc) ≡ true
+IsOperand (operands.Direct loc) = (is_some (loc_type loc) ≡ true) × (is_nameable loc ≡ true)
 IsOperand operand = Unit {0}
 
 -- an instruction whose operator takes its letters and its form of operand; one without an operator has a label
@@ -61,13 +61,13 @@ pub record IsInstruction (line : Instr) : Type 0 where
   pub labelled : line.op ≡ ops.Empty → is_some line.label ≡ true
 
 -- no more parts than a program may have, each of them lawful, no name of a variable or an instance twice, no two
--- variables at one location; and it is typed, so that its labels are distinct and what it names is there
+-- variables at one bit or word; and it is typed, so that its labels are distinct and what it names is there
 pub record IsWellFormed (Q : Program) : Type 0 where
   pub small : IsSmall Q
   pub variables : AllByRecursion IsVariable Q.variables
   pub instances : AllByRecursion (λ (x : Instance). IsName x.name) Q.instances
   pub names : AreDistinct (map (λ (v : Variable). v.name) Q.variables ++ map (λ (x : Instance). x.name) Q.instances)
-  pub locations : AreDistinct (filter_map (λ (v : Variable). v.location) Q.variables)
+  pub locations : AreDistinct (flat_map parts_of (filter_map (λ (v : Variable). v.location) Q.variables))
   pub code : AllByRecursion IsInstruction Q.code
   pub typed : IsTyped Q
 

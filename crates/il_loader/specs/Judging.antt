@@ -141,7 +141,7 @@ is_same version own = nat_eq (version_number version) (version_number own)
 
 -- the version is that of the program, whose constants these are
 unfoldable pub is_own_version : Version → List Value → Program → Bool
-is_own_version version constants Q = is_same version (version_with Q.variables constants Q.code)
+is_own_version version constants Q = is_same version (version_with Q.variables Q.instances constants Q.code)
 
 abbrev pub small : Option Program → Result Program LoadFault
 small None = Err BadCount

@@ -16,8 +16,9 @@ use Rattle.il_loader.specs.declared.word.Content.TheVariants as contents
 use Rattle.il_model.specs.declared.value.Value.{Value}
 use Rattle.il_model.specs.Marks.{Mark}
 use Rattle.il_model.specs.Codes.{is_new_name, is_new_instance, is_new_label, length_of, type_in, version_numbered}
-use Rattle.il_model.specs.Codes.{coded_location, initial_of, constant_of, op_in, letters_of, label_there, word_operand}
-use Rattle.il_model.specs.Codes.{side_of, argument_number, argument_operand}
+use Rattle.il_model.specs.Codes.{coded_location_in, initial_of, constant_of, op_in, letters_of, label_there}
+use Rattle.il_model.specs.Codes.{word_operand_in, side_of, argument_number, argument_operand_in, retained_in}
+use Rattle.il_model.specs.Codes.{plain_code}
 use Rattle.il_loader.specs.declared.counts.Counts.{Counts}
 use Rattle.il_loader.specs.declared.word.Word.{Word}
 use Rattle.il_loader.specs.Tables.{Tables}
@@ -126,22 +127,30 @@ first_value_at version pos type loc bytes = do
   value ← lawful pos (initial_of type loc number.0)
   Ok (value, number.1)
 
+-- the code of a declaration: whether what it declares is retained, and the code of its type or kind
+unfoldable pub declared_at : Version → ℕ → List ℕ → Result ((Bool × ℕ) × List ℕ) LoadFault
+declared_at version pos bytes = do
+  code ← number_at w8 bytes
+  retained ← lawful pos (retained_in version code.0)
+  Ok ((retained, plain_code code.0), code.1)
+
 unfoldable pub variable_at : Version → ℕ → List Variable → List ℕ → Result (Variable × List ℕ) LoadFault
 variable_at version total seen bytes = do
   name ← name_at (total - length bytes) (is_new_name seen) bytes
-  code ← number_at w8 name.1
-  type ← lawful (total - length bytes) (type_in version code.0)
+  code ← declared_at version (total - length bytes) name.1
+  type ← lawful (total - length bytes) (type_in version code.0.1)
   place ← number_at w16 code.1
-  loc ← lawful (total - length bytes) (coded_location seen type place.0)
+  loc ← lawful (total - length bytes) (coded_location_in version seen type place.0)
   first ← first_value_at version (total - length bytes) type loc place.1
-  Ok (record { name = name.0; ty = type; location = loc; initial = first.0 }, first.1)
+  Ok (record { name = name.0; ty = type; location = loc; initial = first.0; retained = code.0.0 }, first.1)
 
-unfoldable pub instance_at : ℕ → List Variable → List Instance → List ℕ → Result (Instance × List ℕ) LoadFault
-instance_at total vs seen bytes = do
+unfoldable pub instance_at : Version → ℕ → List Variable → List Instance → List ℕ
+    → Result (Instance × List ℕ) LoadFault
+instance_at version total vs seen bytes = do
   name ← name_at (total - length bytes) (is_new_instance vs seen) bytes
-  code ← number_at w8 name.1
-  kind ← lawful (total - length bytes) (kind_of_code code.0)
-  Ok (record { name = name.0; kind = kind }, code.1)
+  code ← declared_at version (total - length bytes) name.1
+  kind ← lawful (total - length bytes) (kind_of_code code.0.1)
+  Ok (record { name = name.0; kind = kind; retained = code.0.0 }, code.1)
 
 -- a label; whether an instruction begins at its address is judged later
 unfoldable pub mark_at : ℕ → List Mark → List ℕ → Result (Mark × List ℕ) LoadFault
@@ -166,7 +175,7 @@ instruction_at version pos ds marks constants n code bytes = do
   letters ← number_at w8 bytes
   m ← lawful pos (letters_of op letters.0)
   slot ← number_at w16 letters.1
-  operand ← lawful pos (word_operand ds marks constants op m slot.0)
+  operand ← lawful pos (word_operand_in version ds marks constants op m slot.0)
   Ok (
     record {
       content = contents.Instruction
@@ -178,18 +187,18 @@ instruction_at version pos ds marks constants n code bytes = do
   )
 
 -- that where it is an argument; whether it follows a call, and whether the call's kind has the field, is judged later
-unfoldable pub argument_at : ℕ → Declarations → List Value → Side → List ℕ → Result (Word × List ℕ) LoadFault
-argument_at pos ds constants side bytes = do
+unfoldable pub argument_at : Version → ℕ → Declarations → List Value → Side → List ℕ → Result (Word × List ℕ) LoadFault
+argument_at version pos ds constants side bytes = do
   number ← number_at w8 bytes
   field ← lawful pos (argument_number number.0)
   slot ← number_at w16 number.1
-  operand ← lawful pos (argument_operand ds constants slot.0)
+  operand ← lawful pos (argument_operand_in version ds constants slot.0)
   Ok (record { content = contents.Argument side field operand; code = slot.0 }, slot.1)
 
 abbrev pub word_by : Version → ℕ → Declarations → List Mark → List Value → ℕ → ℕ → Option Side → List ℕ
     → Result (Word × List ℕ) LoadFault
 word_by version pos ds marks constants n code None bytes = instruction_at version pos ds marks constants n code bytes
-word_by version pos ds marks constants n code (Some side) bytes = argument_at pos ds constants side bytes
+word_by version pos ds marks constants n code (Some side) bytes = argument_at version pos ds constants side bytes
 
 -- the n-th word, behind the tables that its number may point to
 unfoldable pub word_at : Version → ℕ → Declarations → List Mark → List Value → ℕ → List ℕ
@@ -212,7 +221,7 @@ ended x = agrees Trailing (nat_eq (length x.1) 0) >>= λ _. Ok x.0
 unfoldable pub bodies_at : Version → ℕ → Counts → List ℕ → Result Tables LoadFault
 bodies_at version total counts bytes = do
   variables ← items_from (variable_at version total) counts.variables [] bytes
-  instances ← items_from (instance_at total variables.0) counts.instances [] variables.1
+  instances ← items_from (instance_at version total variables.0) counts.instances [] variables.1
   labels ← items_from (mark_at total) counts.labels [] instances.1
   constants ← items_from (constant_at version total) counts.constants [] labels.1
   words ← items_from (next_word version total

@@ -275,6 +275,7 @@ pub fn check_version(
 {
     let own = version_with(
         program.variables.as_slice(),
+        program.instances.as_slice(),
         constants,
         program.code.as_slice(),
     );

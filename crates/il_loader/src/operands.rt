@@ -1,8 +1,11 @@
 //! The operands of words: what their numbers stand for.
 
-ghost use Rattle.std.specs.Prelude.{◌≡◌, Ok, slice_get};
-ghost use Rattle.std.specs.Option.{option_map};
+ghost use Rattle.std.specs.Prelude.{◌≡◌, Ok, Some, None, slice_get, if◌then◌else◌};
+ghost use Rattle.std.specs.Option.{option_map, option_and_then};
 ghost use Rattle.il_model.specs.declared.program.Operand.TheVariants as operands;
+ghost use Rattle.il_model.specs.Locations.{is_nameable};
+ghost use Rattle.il_model.specs.Image.{may_name};
+ghost use Rattle.il_model.specs.Codes.{if_passes, word_operand_in, argument_operand_in};
 ghost use Rattle.il_model.specs.Codes.{label_there, target_name, variable_named, instance_named, field_named};
 ghost use Rattle.il_model.specs.Codes.{named_operand, value_operand, numbered_operand, word_operand, argument_operand};
 ghost use Rattle.il_loader.specs.Reading.{Gives};
@@ -11,7 +14,8 @@ use crate::declared::{Declared, SymbolTables};
 use crate::fault::LoadError;
 use crate::label::Labels;
 use il_model::{
-    CodedOperand, Instance, Modifier, Name, Op, Operand, Value, Variable, is_formed, is_passed,
+    CodedOperand, Instance, Loc, Modifier, Name, Op, Operand, Value, Variable, Version, is_formed,
+    is_passed,
 };
 use std::alloc::Global;
 
@@ -77,6 +81,17 @@ fn literal_at(constants: &[Value], k: usize) -> Option<Operand>
     }
 }
 
+/// A location as an operand, where an instruction can name it.
+fn direct(loc: Loc) -> Option<Operand>
+    ensures { result ≡ (if is_nameable loc then Some (operands.Direct loc) else None) }
+{
+    if loc.is_nameable() {
+        Some(Operand::Direct(loc))
+    } else {
+        None
+    }
+}
+
 /// The operand that stands under these numbers, if there is one.
 fn named_operand(
     alloc: Global,
@@ -87,7 +102,7 @@ fn named_operand(
     ensures { Gives (λ o. o) result (Ok (named_operand ds.now constants.now operand)) }
 {
     match operand {
-        CodedOperand::Location(loc) => Ok(Some(Operand::Direct(loc))),
+        CodedOperand::Location(loc) => Ok(direct(loc)),
         CodedOperand::Variable(i) => {
             variable_named(alloc, ds.variables().as_slice().get(i as usize))
         }
@@ -138,7 +153,7 @@ fn numbered_operand(
 }
 
 /// The operand of an instruction, where its operator takes one of this form.
-pub fn word_operand(
+fn word_operand(
     alloc: Global,
     tables: &SymbolTables,
     op: Op,
@@ -160,8 +175,36 @@ pub fn word_operand(
     }
 }
 
+/// An operand, where an image of this version may have it.
+fn known_operand(version: Version, operand: Option<Operand>) -> Option<Operand>
+    ensures { result ≡ option_and_then (if_passes (may_name version)) operand }
+{
+    let operand = operand?;
+    if version.may_name(&operand) {
+        Some(operand)
+    } else {
+        None
+    }
+}
+
+/// The operand of an instruction, where its operator takes one of this form and an image of the version has it.
+pub fn word_operand_in(
+    alloc: Global,
+    tables: &SymbolTables,
+    op: Op,
+    m: Modifier,
+    n: u16,
+) -> Result<Option<Operand>, LoadError>
+    ensures { Gives (λ o. o) result
+        (Ok (word_operand_in tables.now.version
+        tables.now.declared.now tables.now.labels.now tables.now.constants.now op m n)) }
+{
+    let operand = word_operand(alloc, tables, op, m, n)?;
+    Ok(known_operand(tables.version, operand))
+}
+
 /// The operand of an argument: a value or a place.
-pub fn argument_operand(
+fn argument_operand(
     alloc: Global,
     ds: &Declared,
     constants: &[Value],
@@ -179,4 +222,17 @@ pub fn argument_operand(
         }
         None => Ok(None),
     }
+}
+
+/// The operand of an argument, where an image of the version has it.
+pub fn argument_operand_in(
+    alloc: Global,
+    tables: &SymbolTables,
+    n: u16,
+) -> Result<Option<Operand>, LoadError>
+    ensures { Gives (λ o. o) result
+        (Ok (argument_operand_in tables.now.version tables.now.declared.now tables.now.constants.now n)) }
+{
+    let operand = argument_operand(alloc, tables.declared, tables.constants, n)?;
+    Ok(known_operand(tables.version, operand))
 }

@@ -3,24 +3,26 @@
 ghost use Rattle.std.specs.Prelude.{◌≡◌, [], IfOk};
 ghost use Rattle.std.specs.Int.{w8, w16, w32, w64};
 ghost use Rattle.il_model.specs.Codes.{is_new_instance, argument_number, constant_of, is_free, coded_location};
+ghost use Rattle.il_model.specs.Codes.{coded_location_in};
 ghost use Rattle.il_model.specs.Codes.{version_numbered};
 ghost use Rattle.il_loader.specs.Reading.{Gives, number_at, signed_at, lawful, agrees, items_from, count_at, counts_at};
 ghost use Rattle.il_loader.specs.Reading.{lawful_version, header_at, spelled_name_at, first_value_at, variable_at};
 ghost use Rattle.il_loader.specs.Reading.{instance_at, mark_at, constant_at, instruction_at, argument_at, word_at};
-ghost use Rattle.il_loader.specs.Reading.{next_word};
+ghost use Rattle.il_loader.specs.Reading.{next_word, declared_at};
 
 use crate::counts::Counts;
 use crate::declared::SymbolTables;
 use crate::fault::{LoadError, LoadFault};
 use crate::instance::Instances;
 use crate::label::{Label, Labels};
-use crate::operands::{argument_operand, label_there, word_operand};
+use crate::operands::{argument_operand_in, label_there, word_operand_in};
 use crate::variable::Variables;
 use crate::word::{Content, Word};
 use il_model::{
     Arguments, BlockKind, CodedOperand, Constants, Instance, Instr, Loc, MAGIC, MOST_INSTANCES,
     MOST_INSTRUCTIONS, MOST_VARIABLES, Name, Side, Ty, Value, Variable, Version, initial_of,
-    is_type, length_of, letters_of, loc_type, make, op_in, side_of, type_in,
+    is_type, length_of, letters_of, loc_type, make, op_in, plain_code, retained_in, side_of,
+    type_in,
 };
 use std::alloc::Global;
 
@@ -178,11 +180,11 @@ fn is_new_instance(variables: &Variables, seen: &Instances, name: &[u8]) -> bool
     variables.is_new(name) && !seen.number_of(name).is_some()
 }
 
-/// Whether a location is of the type and no other variable has it.
+/// Whether a location is of the type and no other variable has a part of it.
 fn is_free(seen: &Variables, ty: Ty, loc: Loc) -> bool
     ensures { result ≡ is_free seen.now ty loc }
 {
-    is_type(ty, loc_type(loc)) && !seen.is_taken(loc)
+    is_type(ty, loc_type(loc)) && !seen.is_overlapped(loc)
 }
 
 /// The location with a code, where it is free; none at the code for none.
@@ -197,6 +199,18 @@ fn location_of(seen: &Variables, ty: Ty, n: u16) -> Option<Option<Loc>>
             None
         },
         _ => None,
+    }
+}
+
+/// That location, where an image of this version may have it.
+fn location_in(version: Version, seen: &Variables, ty: Ty, n: u16) -> Option<Option<Loc>>
+    ensures { result ≡ coded_location_in version seen.now ty n }
+{
+    let location = location_of(seen, ty, n)?;
+    if version.may_lie(location) {
+        Some(location)
+    } else {
+        None
     }
 }
 
@@ -216,6 +230,21 @@ fn first_value_at(
     Ok((value, rest))
 }
 
+/// The code of a declaration, in a record that begins at the position: whether what it declares is retained, and the
+/// code of its type or kind.
+#[tactic(auto, unfolding(crate::specs::Reading::declared_at))]
+fn declared_at(
+    version: Version,
+    position: usize,
+    bytes: &[u8],
+) -> Result<(bool, u8, &[u8]), LoadError>
+    ensures { Gives (λ x. ((x.0, x.1), x.2.now)) result (declared_at version position bytes.now) }
+{
+    let (code, rest) = u8_at(bytes)?;
+    let retained = lawful(position, retained_in(version, code))?;
+    Ok((retained, plain_code(code), rest))
+}
+
 /// A variable, and the bytes of its name.
 #[tactic(auto, unfolding(crate::specs::Reading::variable_at, crate::specs::Reading::name_at))]
 fn variable_at<'a>(
@@ -231,16 +260,17 @@ fn variable_at<'a>(
     let position = total.saturating_sub(bytes.len());
     let (name, rest) = spelled_name_at(position, bytes)?;
     agrees(LoadFault::BadWord { position }, seen.is_new(name))?;
-    let (code, rest) = u8_at(rest)?;
+    let (retained, code, rest) = declared_at(version, position, rest)?;
     let ty = lawful(position, type_in(version, code))?;
     let (place, rest) = u16_at(rest)?;
-    let location = lawful(position, location_of(seen, ty, place))?;
+    let location = lawful(position, location_in(version, seen, ty, place))?;
     let (initial, rest) = first_value_at(version, position, ty, location, rest)?;
     let found = Variable {
         name: Name::of(Vec::from_slice(alloc, name)?),
         ty,
         location,
         initial,
+        retained,
     };
     Ok((found, name, rest))
 }
@@ -249,12 +279,14 @@ fn variable_at<'a>(
 #[tactic(auto, unfolding(crate::specs::Reading::instance_at, crate::specs::Reading::name_at))]
 fn instance_at<'a>(
     alloc: Global,
+    version: Version,
     total: usize,
     variables: &Variables,
     seen: &Instances,
     bytes: &'a [u8],
 ) -> Result<(Instance, &'a [u8], &'a [u8]), LoadError>
-    ensures found { Gives (λ x. (x.0, x.2.now)) result (instance_at total variables.now seen.now bytes.entry.now) }
+    ensures found { Gives (λ x. (x.0, x.2.now)) result
+        (instance_at version total variables.now seen.now bytes.entry.now) }
     ensures name { IfOk result (λ x. x.1.now ≡ x.0.name) }
 {
     let position = total.saturating_sub(bytes.len());
@@ -263,11 +295,12 @@ fn instance_at<'a>(
         LoadFault::BadWord { position },
         is_new_instance(variables, seen, name),
     )?;
-    let (code, rest) = u8_at(rest)?;
+    let (retained, code, rest) = declared_at(version, position, rest)?;
     let kind = lawful(position, BlockKind::of_code(code))?;
     let found = Instance {
         name: Name::of(Vec::from_slice(alloc, name)?),
         kind,
+        retained,
     };
     Ok((found, name, rest))
 }
@@ -343,7 +376,7 @@ fn instruction_at<'a>(
     let (letters, rest) = u8_at(bytes)?;
     let modifier = lawful(position, letters_of(op, letters))?;
     let (code, rest) = u16_at(rest)?;
-    let operand = word_operand(alloc, tables, op, modifier, code)?;
+    let operand = word_operand_in(alloc, tables, op, modifier, code)?;
     let operand = lawful(position, operand)?;
     let label = label_there(alloc, tables.labels, n)?;
     let line = Instr {
@@ -367,12 +400,13 @@ fn argument_at<'a>(
     bytes: &'a [u8],
 ) -> Result<(Word, &'a [u8]), LoadError>
     ensures { Gives (λ x. (x.0, x.1.now)) result
-        (argument_at position tables.now.declared.now tables.now.constants.now side bytes.entry.now) }
+        (argument_at tables.now.version position
+        tables.now.declared.now tables.now.constants.now side bytes.entry.now) }
 {
     let (number, rest) = u8_at(bytes)?;
     let number = lawful(position, argument_number(number))?;
     let (code, rest) = u16_at(rest)?;
-    let operand = argument_operand(alloc, tables.declared, tables.constants, code)?;
+    let operand = argument_operand_in(alloc, tables, code)?;
     let operand = lawful(position, operand)?;
     let content = Content::Argument(side, number, operand);
     Ok((Word { content, code }, rest))
@@ -420,18 +454,19 @@ pub fn variables_of<'a>(
 /// The instances, of which there are `count`, and the bytes behind them.
 pub fn instances_of<'a>(
     alloc: Global,
+    version: Version,
     total: usize,
     variables: &Variables,
     count: u16,
     bytes: &'a [u8],
 ) -> Result<(Instances<'a>, &'a [u8]), LoadError>
     ensures { Gives (λ x. (x.0, x.1.now)) result
-        (items_from (instance_at total variables.now) count [] bytes.entry.now) }
+        (items_from (instance_at version total variables.now) count [] bytes.entry.now) }
 {
     let mut seen = Instances::new(alloc);
     let mut rest = bytes;
     for _ in 0..count {
-        let (one, name, after) = instance_at(alloc, total, variables, &seen, rest)?;
+        let (one, name, after) = instance_at(alloc, version, total, variables, &seen, rest)?;
         seen = seen.with(one, name)?;
         rest = after;
     }

@@ -54,7 +54,14 @@ fn bodies_at<'a>(
     ensures { Gives (λ t. t) result (bodies_at version total counts bytes.entry.now) }
 {
     let (variables, rest) = variables_of(alloc, version, total, counts.variables, bytes)?;
-    let (instances, rest) = instances_of(alloc, total, &variables, counts.instances, rest)?;
+    let (instances, rest) = instances_of(
+        alloc,
+        version,
+        total,
+        &variables,
+        counts.instances,
+        rest,
+    )?;
     let (labels, rest) = labels_of(alloc, total, counts.labels, rest)?;
     let (constants, rest) = constants_of(alloc, version, total, counts.constants, rest)?;
     let tables = SymbolTables {

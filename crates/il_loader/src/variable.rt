@@ -3,7 +3,7 @@
 ghost use Rattle.std.specs.Prelude.{◌≡◌, ◌++◌, [], ◌∷◌, OnOk};
 ghost use Rattle.il_loader.specs.NameTables.{AreNumbered};
 
-use il_model::{Loc, Variable, is_lawful_name, put_code};
+use il_model::{Loc, Variable, is_lawful_name, is_overlapping, put_code};
 use std::alloc::{AllocError, Global};
 use std::collections::{BTreeMap, BTreeSet};
 use std::marker::Model;
@@ -46,8 +46,7 @@ fn put_number<'a>(
 
 impl<'a> Variables<'a> {
     ghost use Rattle.std.specs.Prelude.{◌≡◌, ◌<◌, ◌^◌, ◌++◌, IfOk, IfSome, [], ◌∷◌};
-    ghost use Rattle.il_model.specs.CodedOperands.{loc_code};
-    ghost use Rattle.il_model.specs.Codes.{is_number, is_new_name, is_taken};
+    ghost use Rattle.il_model.specs.Codes.{is_number, is_new_name, is_overlapped};
 
     /// No variables.
     pub fn new(alloc: Global) -> Variables<'a>
@@ -109,10 +108,10 @@ impl<'a> Variables<'a> {
         is_lawful_name(name) && !self.number_of(name).is_some()
     }
 
-    /// Whether a variable has this location.
-    pub fn is_taken(&self, loc: Loc) -> bool
-        ensures { result ≡ is_taken self.now (loc_code loc) }
+    /// Whether a variable lies at a part of this location.
+    pub fn is_overlapped(&self, loc: Loc) -> bool
+        ensures { result ≡ is_overlapped self.now loc }
     {
-        self.codes.contains(&loc.code())
+        is_overlapping(&self.codes, loc)
     }
 }

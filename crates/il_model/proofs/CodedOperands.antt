@@ -6,14 +6,18 @@ use Rattle.std.proofs.lemmas.Bool.{ltb-true, ltb-false, lt-ltb, le-ltb, eqb-true
 use Rattle.il_model.specs.declared.program.Area.{Area}
 use Rattle.il_model.specs.declared.program.Area.TheVariants as areas
 use Rattle.il_model.specs.declared.program.Loc.{Loc}
-use Rattle.il_model.specs.declared.program.Loc.TheVariants.{Bit, Word}
+use Rattle.il_model.specs.declared.program.Loc.TheVariants.{Bit, Word, Double}
+use Rattle.il_model.specs.declared.program.DoubleType.{DoubleType}
+use Rattle.il_model.specs.declared.program.DoubleType.TheVariants as doubles
 use Rattle.il_model.specs.declared.coded_operand.CodedOperand.{CodedOperand}
 use Rattle.il_model.specs.declared.coded_operand.CodedOperand.TheVariants.{Location, Variable, Field, Constant, Unused}
 use Rattle.il_model.specs.declared.value.Ty.{Ty}
 use Rattle.il_model.specs.declared.program.Variable as declarations
+use Rattle.il_model.specs.Locations.{begins_double}
 use Rattle.il_model.specs.Typing.{loc_type}
-use Rattle.il_model.specs.Codes.{is_type, is_taken, coded_location}
-use Rattle.il_model.specs.CodedOperands.{base_of, loc_code, IsCell, area_loc, any_loc, code_of, HasOwnCode, with_code}
+use Rattle.il_model.specs.Codes.{is_type, is_overlapped, coded_location}
+use Rattle.il_model.specs.CodedOperands.{base_of, first_double, loc_code, IsCell, double_loc, double_there, area_loc, any_loc, code_of, HasOwnCode, with_code}
+use Rattle.il_model.proofs.LocationLaws.{double_fits}
 
 same_loc : (x y : Loc) → Some x ≡ Some y → x ≡ y
 same_loc x y e = cc
@@ -31,6 +35,34 @@ word_there area n lt =
     let back : 1024 + n - 1024 ≡ n = omega arith in
     rw (le-ltb (1024 + n) 512 (omega arith), le-ltb (1024 + n) 1024 (omega arith), lt-ltb (1024 + n) 1088 (omega arith), back) refl
 
+dint_there : (area : Area) (n : ℕ) → begins_double n ≡ true → area_loc area (1280 + n) ≡ Some (Double area n doubles.Dint)
+dint_there area n cell =
+    let lt = double_fits n cell in
+    let back : 1280 + n - 1280 ≡ n = omega arith in
+    rw (le-ltb (1280 + n) 512 (omega arith), le-ltb (1280 + n) 1024 (omega arith), le-ltb (1280 + n) 1088 (omega arith), le-ltb (1280 + n) 1280 (omega arith), lt-ltb (1280 + n) 1536 (omega (arith, lt)), back, cell) refl
+
+time_there : (area : Area) (n : ℕ) → begins_double n ≡ true → area_loc area (1536 + n) ≡ Some (Double area n doubles.Time)
+time_there area n cell =
+    let lt = double_fits n cell in
+    let back : 1536 + n - 1536 ≡ n = omega arith in
+    rw (le-ltb (1536 + n) 512 (omega arith), le-ltb (1536 + n) 1024 (omega arith), le-ltb (1536 + n) 1088 (omega arith), le-ltb (1536 + n) 1280 (omega arith), le-ltb (1536 + n) 1536 (omega arith), lt-ltb (1536 + n) 1792 (omega (arith, lt)), back, cell) refl
+
+real_there : (area : Area) (n : ℕ) → begins_double n ≡ true → area_loc area (1792 + n) ≡ Some (Double area n doubles.Real)
+real_there area n cell =
+    let lt = double_fits n cell in
+    let back : 1792 + n - 1792 ≡ n = omega arith in
+    rw (le-ltb (1792 + n) 512 (omega arith), le-ltb (1792 + n) 1024 (omega arith), le-ltb (1792 + n) 1088 (omega arith), le-ltb (1792 + n) 1280 (omega arith), le-ltb (1792 + n) 1536 (omega arith), le-ltb (1792 + n) 1792 (omega arith), back, cell) refl
+
+double_found : (area : Area) (t : DoubleType) (n : ℕ) → begins_double n ≡ true → area_loc area (first_double t + n) ≡ Some (Double area n t)
+double_found area doubles.Dint n cell = dint_there area n cell
+double_found area doubles.Time n cell = time_there area n cell
+double_found area doubles.Real n cell = real_there area n cell
+
+double_small : (t : DoubleType) → first_double t ≤ 1792
+double_small doubles.Dint = omega arith
+double_small doubles.Time = omega arith
+double_small doubles.Real = omega arith
+
 any_there : (area : Area) (n : ℕ) → n < 4096 → any_loc (base_of area + n) ≡ area_loc area n
 any_there areas.Input n lt =
     let same : 0 + n ≡ n = omega arith in
@@ -45,6 +77,7 @@ any_there areas.Memory n lt =
 pub loc_again : (loc : Loc) → IsCell loc → any_loc (loc_code loc) ≡ Some loc
 loc_again (Bit area n) lt = any_there area n (omega (arith, lt)) ∙ bit_there area n lt
 loc_again (Word area n) lt = any_there area (1024 + n) (omega (arith, lt)) ∙ word_there area n lt
+loc_again (Double area n t) cell = any_there area (first_double t + n) (omega (arith, double_fits n cell, double_small t)) ∙ double_found area t n cell
 
 base_small : (area : Area) → base_of area ≤ 8192
 base_small areas.Input = omega arith
@@ -54,16 +87,34 @@ base_small areas.Memory = omega arith
 pub loc_small : (loc : Loc) → IsCell loc → loc_code loc < 16384
 loc_small (Bit area n) lt = omega (arith, lt, base_small area)
 loc_small (Word area n) lt = omega (arith, lt, base_small area)
+loc_small (Double area n t) cell = omega (arith, double_fits n cell, base_small area, double_small t)
 
 -- a cell with that code
 pub record IsCellAt (n : ℕ) (loc : Loc) : Type 0 where
   pub cell : IsCell loc
   pub code : loc_code loc ≡ n
 
+double_back : (area : Area) (t : DoubleType) (n k : ℕ) (loc : Loc) → base_of area + (first_double t + n) ≡ k → double_loc area t n ≡ Some loc → IsCellAt k loc
+double_back area t n k loc is e = by_test (begins_double n) refl e
+  where
+    by_test : (p : Bool) → begins_double n ≡ p → cond p (Some (Double area n t)) None ≡ Some loc → IsCellAt k loc
+    by_test true f d = subst (IsCellAt k) (same_loc (Double area n t) loc d) (record { cell = f; code = is })
+    by_test false f d = absurd cc
+
+doubles_back : (area : Area) (n k : ℕ) (loc : Loc) → base_of area + n ≡ k → double_there area n ≡ Some loc → IsCellAt k loc
+doubles_back area n k loc is e = by_tests (ltb n 1280) (ltb n 1536) (ltb n 1792) refl refl refl e
+  where
+    by_tests : (p q r : Bool) → ltb n 1280 ≡ p → ltb n 1536 ≡ q → ltb n 1792 ≡ r
+        → cond p None (cond q (double_loc area doubles.Dint (n - 1280)) (cond r (double_loc area doubles.Time (n - 1536)) (double_loc area doubles.Real (n - 1792)))) ≡ Some loc → IsCellAt k loc
+    by_tests true q r f g h d = absurd cc
+    by_tests false true r f g h d = let above = ltb-false n 1280 f in double_back area doubles.Dint (n - 1280) k loc (omega (arith, is)) d
+    by_tests false false true f g h d = let above = ltb-false n 1536 g in double_back area doubles.Time (n - 1536) k loc (omega (arith, is)) d
+    by_tests false false false f g h d = let above = ltb-false n 1792 h in double_back area doubles.Real (n - 1792) k loc (omega (arith, is)) d
+
 area_back : (area : Area) (n k : ℕ) (loc : Loc) → base_of area + n ≡ k → area_loc area n ≡ Some loc → IsCellAt k loc
 area_back area n k loc is e = by_tests (ltb n 512) (ltb n 1024) (ltb n 1088) refl refl refl e
   where
-    by_tests : (p q r : Bool) → ltb n 512 ≡ p → ltb n 1024 ≡ q → ltb n 1088 ≡ r → cond p (Some (Bit area n)) (cond q None (cond r (Some (Word area (n - 1024))) None)) ≡ Some loc → IsCellAt k loc
+    by_tests : (p q r : Bool) → ltb n 512 ≡ p → ltb n 1024 ≡ q → ltb n 1088 ≡ r → cond p (Some (Bit area n)) (cond q None (cond r (Some (Word area (n - 1024))) (double_there area n))) ≡ Some loc → IsCellAt k loc
     by_tests true q r f g h d = subst (IsCellAt k) (same_loc (Bit area n) loc d) (record { cell = ltb-true n 512 f; code = is })
     by_tests false true r f g h d = absurd cc
     by_tests false false true f g h d =
@@ -72,7 +123,7 @@ area_back area n k loc is e = by_tests (ltb n 512) (ltb n 1024) (ltb n 1088) ref
         let small : n - 1024 < 64 = omega arith in
         let code : base_of area + (1024 + (n - 1024)) ≡ k = omega (arith, is) in
         subst (IsCellAt k) (same_loc (Word area (n - 1024)) loc d) (record { cell = small; code = code })
-    by_tests false false false f g h d = absurd cc
+    by_tests false false false f g h d = doubles_back area n k loc is d
 
 pub loc_back : (n : ℕ) (loc : Loc) → any_loc n ≡ Some loc → IsCellAt n loc
 loc_back n loc e = by_tests (ltb n 4096) (ltb n 8192) refl refl e
@@ -146,5 +197,5 @@ own_small (Constant k) own = omega (arith, own)
 own_small Unused own = omega arith
 
 -- a free location of the type reads back from its code
-pub located_again : (seen : List declarations.Variable) (type : Ty) (loc : Loc) → IsCell loc → is_type type (loc_type loc) ≡ true → is_taken seen (loc_code loc) ≡ false → coded_location seen type (loc_code loc) ≡ Some (Some loc)
+pub located_again : (seen : List declarations.Variable) (type : Ty) (loc : Loc) → IsCell loc → is_type type (loc_type loc) ≡ true → is_overlapped seen loc ≡ false → coded_location seen type (loc_code loc) ≡ Some (Some loc)
 located_again seen type loc cell suits free = rw (coded_again (Location loc) cell, suits, free) refl

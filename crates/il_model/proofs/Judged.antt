@@ -40,7 +40,6 @@ use Rattle.il_model.specs.Resolved.{source_of, target_of, place_of, field_of, in
 use Rattle.il_model.specs.Row.{row, same_type, is_bool, negatable, load_row, store_row, set_row, truth_row, leave_row, jump_row, call_row, close_row, closes_to, convert_row, open_row, opened_row, opens_with, combine_row, sets_to, outside, function_row}
 use Rattle.il_model.specs.Typing as Typing
 use Rattle.il_model.specs.declared.function.Function.{Function}
-use Rattle.il_model.specs.Functions.{function_type}
 use Rattle.il_model.specs.Typing.{Shape, place_type, is_writable, source_type, HasType, MayStore, Leaves, Converts, Applies, Begins, Operates, Takes, Passes, kind_field, IsPassed, ArePassed, MayStand, Leads, shape_on_arrival, Arrives, IsTyped}
 use Rattle.il_model.specs.Checking.{◌>>=◌, source_kind, typed_kind, operand_kind, missing_kind, top_of, source_row, unless_same, passing_fault, goes_so, field_fault, first_fault, argument_fault, arguments_fault, with_fault, line_row, label_at, label_row, shape_after, after_line, after_at, shape_at, typing_end, HasNoTypeFault}
 use Rattle.il_model.proofs.RowTypes.{guarded, typed_kind_is, load_typed, same_type_is, store_typed, set_typed, truth_typed_row, combine_typed, no_close, opened_typed, closes_typed, convert_typed, call_typed, function_typed}

@@ -525,7 +525,7 @@ value_again Q operands.Absent src room form ok there known = absurd cc
 value_again Q (operands.Literal v) src room form ok there known = constant_by (position (same_value v) (constants_of Q)) (declared_by Q) (constants_of Q) v room.constants refl (known v refl)
 value_again Q (operands.Bare z) src room form ok there known = absurd cc
 value_again Q (operands.Variable name) src room form ok there known = variable_by (position (λ (v : Variable). same_name v.name name) Q.variables) (declared_by Q) (constants_of Q) name room.variables refl ok
-value_again Q (operands.Direct loc) src room form ok there known = stands_again (declared_by Q) (constants_of Q) (operands.Direct loc) (coded.Location loc) (record { coded = refl; own = ok; named = refl })
+value_again Q (operands.Direct loc) src room form ok there known = stands_again (declared_by Q) (constants_of Q) (operands.Direct loc) (coded.Location loc) (record { coded = refl; own = ok.0; named = rw ok.1 refl })
 value_again Q (operands.Label name) src room form ok there known = absurd cc
 value_again Q (operands.Field name field) src room form ok there known =
     let place = map_some (field_of Q name field) sources.Of src there in

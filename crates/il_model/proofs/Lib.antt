@@ -18,6 +18,7 @@ pub mod ArgumentFaults
 pub mod FirstFaults
 pub mod FaultyWords
 pub mod Judged
+pub mod WorkedDoubles
 pub mod WorkedTyping
 pub mod SettledPrograms
 pub mod Indexing
@@ -29,3 +30,4 @@ pub mod WrittenLocations
 pub mod HeldNumbers
 pub mod ConstantKeys
 pub mod Versions
+pub mod Retained

@@ -1,9 +1,9 @@
 -- REALs that were made of their patterns, and bare numbers.
-use Rattle.std.proofs.Common.{◌≡◌, ℕ, ◌≤◌, ◌^◌, ◌<ℤ◌, ◌≤ℤ◌, Option, Some, None, refl, sym, ap, ◌∙◌, arith}
+use Rattle.std.proofs.Common.{◌≡◌, ℕ, ◌≤◌, ◌^◌, ◌<ℤ◌, ◌≤ℤ◌, Option, Some, None, refl, ap, arith}
 use Rattle.std.specs.Prelude.{ℤ, pos, negsuc, nat_abs}
 use Rattle.std.proofs.lemmas.Bool.{le-ltb}
 use Rattle.std.proofs.lemmas.Int.{ints}
-use Rattle.std.specs.Option.{option_map, option_and_then}
+use Rattle.std.specs.Option.{option_map}
 use Rattle.il_real.specs.declared.real.Real.{Real}
 use Rattle.il_real.specs.Reals.{with_pattern}
 use Rattle.il_real.proofs.Values.{with_own_pattern, pattern_is, same_real, real_small}

@@ -1,6 +1,6 @@
 -- Numbers, types and operators of an image of a version read back.
-use Rattle.std.proofs.Common.{◌≡◌, ℕ, ◌<◌, ◌≤◌, ◌^◌, Bool, true, false, cond, ltb, List, [], ◌∷◌, ◌++◌, Option, Some, None, refl, sym, ap, subst, arith}
-use Rattle.std.specs.Prelude.{ℤ, pos, negsuc, not, ◌&&◌, nat_eq, zero, suc}
+use Rattle.std.proofs.Common.{◌≡◌, ℕ, ◌<◌, ◌≤◌, ◌^◌, Bool, true, false, cond, ltb, List, map, [], ◌∷◌, ◌++◌, Option, Some, None, refl, sym, ap, subst, arith}
+use Rattle.std.specs.Prelude.{ℤ, pos, negsuc, not, nat_eq, zero, suc}
 use Rattle.std.specs.List.{list_all, AllByRecursion}
 use Rattle.std.specs.Option.{option_and_then}
 use Rattle.std.specs.Int.{w32, w64, cast_signed, cast_unsigned}
@@ -15,17 +15,25 @@ use Rattle.il_model.specs.declared.codes.Version.{Version}
 use Rattle.il_model.specs.declared.codes.Version.TheVariants as versions
 use Rattle.il_model.specs.declared.program.Loc.{Loc}
 use Rattle.il_model.specs.declared.program.Variable.{Variable}
+use Rattle.il_model.specs.declared.program.Instance.{Instance}
 use Rattle.il_model.specs.declared.program.Instr.{Instr}
 use Rattle.il_model.specs.Values.{ty_of, number_of, is_within, truth_made, typed_value}
-use Rattle.il_model.specs.Image.{type_code, op_code, version_number, number_width, type_version, value_version, op_version, may_have, may_declare, may_keep, may_write, suffices, version_with}
+use Rattle.il_model.specs.Image.{type_code, op_code, version_number, number_width, type_version, value_version, op_version, may_have, may_lie, may_declare, may_instantiate, may_keep, may_name, may_write, suffices, version_with}
+use Rattle.il_model.specs.Constants.{operands_in}
 use Rattle.il_model.specs.Codes.{if_passes, may_start_with, type_of, type_in, op_of, op_in, version_numbered, initial_of, is_known}
+use Rattle.il_model.specs.Codes.{coded_location, coded_location_in, word_operand, word_operand_in, argument_operand, argument_operand_in}
+use Rattle.il_model.specs.Program.{Declarations}
+use Rattle.il_model.specs.Marks.{Mark}
+use Rattle.il_model.specs.declared.op.Modifier.{Modifier}
+use Rattle.il_model.specs.declared.program.Operand.{Operand}
+use Rattle.il_model.specs.declared.program.Argument.{Argument}
+use Rattle.std.proofs.lemmas.List.Folds.{list_all-map}
 use Rattle.il_model.specs.Fits.{IsVariable, IsConstant, AreItems}
 use Rattle.il_model.proofs.LiteralLaws.{IsValue}
 use Rattle.il_model.proofs.Lawful.{listed, type_again}
 use Rattle.il_model.proofs.SettledPrograms.{made_number}
 use Rattle.il_model.proofs.RealValues.{real_is}
 use Rattle.il_model.proofs.RowTypes.{and_yes}
-use Rattle.il_real.specs.declared.real.Real.{Real}
 use Rattle.il_real.proofs.Values.{real_small}
 
 -- ---- numbers
@@ -124,25 +132,26 @@ all_yes may each [] = refl
 all_yes may each (x ∷ xs) = rw (each x) (all_yes may each xs)
 
 -- the third version may have everything
-three_suffices : (variables : List Variable) (constants : List Value) (code : List Instr) → suffices versions.Three variables constants code ≡ true
-three_suffices variables constants code =
-    rw (all_yes (may_declare versions.Three) (λ v. refl) variables, all_yes (may_keep versions.Three) (λ v. refl) constants) (all_yes (may_write versions.Three) (λ line. refl) code)
+three_suffices : (variables : List Variable) (instances : List Instance) (constants : List Value) (code : List Instr) → suffices versions.Three variables instances constants code ≡ true
+three_suffices variables instances constants code =
+    rw (all_yes (may_declare versions.Three) (λ v. refl) variables, all_yes (may_instantiate versions.Three) (λ x. refl) instances, all_yes (may_keep versions.Three) (λ v. refl) constants) (all_yes (may_write versions.Three) (λ line. all_yes (may_name versions.Three) (λ x. refl) (operands_in line)) code)
 
-first_suffices : (variables : List Variable) (constants : List Value) (code : List Instr) (a b : Bool) → suffices versions.One variables constants code ≡ a → suffices versions.Two variables constants code ≡ b
-    → let version : Version = cond a versions.One (cond b versions.Two versions.Three) in suffices version variables constants code ≡ true
-first_suffices variables constants code true b e f = e
-first_suffices variables constants code false true e f = f
-first_suffices variables constants code false false e f = three_suffices variables constants code
+first_suffices : (variables : List Variable) (instances : List Instance) (constants : List Value) (code : List Instr) (a b : Bool) → suffices versions.One variables instances constants code ≡ a → suffices versions.Two variables instances constants code ≡ b
+    → let version : Version = cond a versions.One (cond b versions.Two versions.Three) in suffices version variables instances constants code ≡ true
+first_suffices variables instances constants code true b e f = e
+first_suffices variables instances constants code false true e f = f
+first_suffices variables instances constants code false false e f = three_suffices variables instances constants code
 
 -- the version of a program may have what the program has
-pub version_may : (variables : List Variable) (constants : List Value) (code : List Instr)
-    → let version = version_with variables constants code in (list_all (may_declare version) variables ≡ true) × (list_all (may_keep version) constants ≡ true) × (list_all (may_write version) code ≡ true)
-version_may variables constants code =
-    let version = version_with variables constants code in
-    let all = first_suffices variables constants code (suffices versions.One variables constants code) (suffices versions.Two variables constants code) refl refl in
-    let first = and_yes (list_all (may_declare version) variables) (list_all (may_keep version) constants && list_all (may_write version) code) all in
-    let rest = and_yes (list_all (may_keep version) constants) (list_all (may_write version) code) first.1 in
-    (first.0, rest.0, rest.1)
+pub version_may : (variables : List Variable) (instances : List Instance) (constants : List Value) (code : List Instr)
+    → let version = version_with variables instances constants code in (list_all (may_declare version) variables ≡ true) × (list_all (may_instantiate version) instances ≡ true) × (list_all (may_keep version) constants ≡ true) × (list_all (may_write version) code ≡ true)
+version_may variables instances constants code =
+    let version = version_with variables instances constants code in
+    let all = first_suffices variables instances constants code (suffices versions.One variables instances constants code) (suffices versions.Two variables instances constants code) refl refl in
+    let first = and_yes (list_all (may_declare version) variables) _ all in
+    let next = and_yes (list_all (may_instantiate version) instances) _ first.1 in
+    let rest = and_yes (list_all (may_keep version) constants) (list_all (may_write version) code) next.1 in
+    (first.0, next.0, rest.0, rest.1)
 
 pub any_may : {A : Type 0} (may : A → Bool) (xs : List A) → list_all may xs ≡ true → AllByRecursion (λ x. may x ≡ true) xs
 any_may may [] e = tt
@@ -155,7 +164,7 @@ items_may IsItem may seen (x ∷ xs) are e = let m = and_yes (may x) (list_all m
 pub variable_kept : (version : Version) (seen : List Variable) (v : Variable) → IsVariable seen v → may_declare version v ≡ true → IsKept version (number_of v.initial)
 variable_kept version seen v is may =
     let made = initial_made v.ty v.location (number_of v.initial) v.initial is.initial in
-    number_back version v.initial (made_value v.ty (number_of v.initial) v.initial made) (and_yes (may_have version (type_version v.ty)) (may_have version (value_version v.initial)) may).1
+    number_back version v.initial (made_value v.ty (number_of v.initial) v.initial made) (and_yes (may_have version (value_version v.initial)) _ (and_yes (may_have version (type_version v.ty)) _ may).1).0
 
 pub constant_kept : (version : Version) (seen : List Value) (v : Value) → IsConstant seen v → may_keep version v ≡ true → IsKept version (number_of v)
 constant_kept version seen v is may = number_back version v (passed (λ x. not (is_known seen x)) (typed_value (ty_of v) (number_of v)) v is.value).0 may
@@ -202,3 +211,29 @@ op_in_again version op e = rw (listed op, e) refl
 
 pub op_in_is : (version : Version) (n : ℕ) (op : Op) → op_in version n ≡ Some op → (op_of n ≡ Some op) × (may_have version (op_version op) ≡ true)
 op_in_is version n op e = passed (λ op. may_have version (op_version op)) (op_of n) op e
+
+-- ---- places and operands
+
+pub place_in_again : (version : Version) (seen : List Variable) (t : Ty) (n : ℕ) (place : Option Loc) → coded_location seen t n ≡ Some place → may_lie version place ≡ true → coded_location_in version seen t n ≡ Some place
+place_in_again version seen t n place read may = rw (read, may) refl
+
+pub place_in_is : (version : Version) (seen : List Variable) (t : Ty) (n : ℕ) (place : Option Loc) → coded_location_in version seen t n ≡ Some place → (coded_location seen t n ≡ Some place) × (may_lie version place ≡ true)
+place_in_is version seen t n place e = passed (may_lie version) (coded_location seen t n) place e
+
+pub operand_in_again : (version : Version) (ds : Declarations) (marks : List Mark) (constants : List Value) (op : Op) (m : Modifier) (n : ℕ) (x : Operand)
+    → word_operand ds marks constants op m n ≡ Some x → may_name version x ≡ true → word_operand_in version ds marks constants op m n ≡ Some x
+operand_in_again version ds marks constants op m n x read may = rw (read, may) refl
+
+pub operand_in_is : (version : Version) (ds : Declarations) (marks : List Mark) (constants : List Value) (op : Op) (m : Modifier) (n : ℕ) (x : Operand)
+    → word_operand_in version ds marks constants op m n ≡ Some x → (word_operand ds marks constants op m n ≡ Some x) × (may_name version x ≡ true)
+operand_in_is version ds marks constants op m n x e = passed (may_name version) (word_operand ds marks constants op m n) x e
+
+pub argument_in_again : (version : Version) (ds : Declarations) (constants : List Value) (n : ℕ) (x : Operand) → argument_operand ds constants n ≡ Some x → may_name version x ≡ true → argument_operand_in version ds constants n ≡ Some x
+argument_in_again version ds constants n x read may = rw (read, may) refl
+
+pub argument_in_is : (version : Version) (ds : Declarations) (constants : List Value) (n : ℕ) (x : Operand) → argument_operand_in version ds constants n ≡ Some x → (argument_operand ds constants n ≡ Some x) × (may_name version x ≡ true)
+argument_in_is version ds constants n x e = passed (may_name version) (argument_operand ds constants n) x e
+
+-- the operands of arguments
+pub all_passed : (version : Version) (xs : List Argument) → list_all (may_name version) (map (λ (a : Argument). a.operand) xs) ≡ list_all (λ (a : Argument). may_name version a.operand) xs
+all_passed version xs = list_all-map (may_name version) (λ (a : Argument). a.operand) xs

@@ -142,7 +142,7 @@ giving field operand = record { field = field; side = sides.Output; operand = op
 abbrev calling : List Argument → Program
 calling args = record {
   variables = [];
-  instances = record { name = codes "T"; kind = kinds.Ton } ∷ [];
+  instances = record { name = codes "T"; kind = kinds.Ton; retained = false } ∷ [];
   code = record { label = None; op = ops.Cal; modifier = plain; operand = operands.Instance (codes "T"); arguments = args } ∷ [];
 }
 

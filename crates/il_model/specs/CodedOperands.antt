@@ -1,13 +1,17 @@
 -- The one table of operand codes, which slots use, too: the code of each operand, and the operand of each code.
-use Rattle.std.specs.Prelude.{ℕ, ◌+◌, ◌-◌, ◌*◌, ◌/◌, ◌%◌, ◌<◌, Option, Some, None, nat_lt, nat_eq, if◌then◌else◌}
+use Rattle.std.specs.Prelude.{◌≡◌, ℕ, ◌+◌, ◌-◌, ◌*◌, ◌/◌, ◌%◌, ◌<◌, true, Option, Some, None, nat_lt, nat_eq}
+use Rattle.std.specs.Prelude.{if◌then◌else◌}
 use Rattle.std.specs.Option.{option_map}
 use Rattle.il_model.specs.declared.limits.TheConstants.{BITS, WORDS}
 use Rattle.il_model.specs.declared.program.Area.{Area}
 use Rattle.il_model.specs.declared.program.Area.TheVariants as areas
 use Rattle.il_model.specs.declared.program.Loc.{Loc}
-use Rattle.il_model.specs.declared.program.Loc.TheVariants.{Bit, Word}
+use Rattle.il_model.specs.declared.program.Loc.TheVariants.{Bit, Word, Double}
+use Rattle.il_model.specs.declared.program.DoubleType.{DoubleType}
+use Rattle.il_model.specs.declared.program.DoubleType.TheVariants as doubles
 use Rattle.il_model.specs.declared.coded_operand.CodedOperand.{CodedOperand}
 use Rattle.il_model.specs.declared.coded_operand.CodedOperand.TheVariants.{Location, Variable, Field, Constant, Unused}
+use Rattle.il_model.specs.Locations.{begins_double}
 
 -- ---- locations
 
@@ -21,21 +25,40 @@ base_of areas.Memory = 0x2000
 abbrev pub first_word : ℕ
 first_word = 0x400
 
+-- where its double words of a type begin, behind its words
+abbrev pub first_double : DoubleType → ℕ
+first_double doubles.Dint = 0x500
+first_double doubles.Time = 0x600
+first_double doubles.Real = 0x700
+
 abbrev pub loc_code : Loc → ℕ
 loc_code (Bit a n) = base_of a + n
 loc_code (Word a n) = base_of a + (first_word + n)
+loc_code (Double a n t) = base_of a + (first_double t + n)
 
--- an area has so many bits and words
+-- an area has so many bits and words, and a double word at each word with an even number
 abbrev pub IsCell : Loc → Type 0
 IsCell (Bit a n) = n < BITS
 IsCell (Word a n) = n < WORDS
+IsCell (Double a n t) = begins_double n ≡ true
 
--- the bit or the word of an area that stands so far behind its beginning
+abbrev pub double_loc : Area → DoubleType → ℕ → Option Loc
+double_loc area t n = if begins_double n then Some (Double area n t) else None
+
+-- the double word of an area that stands so far behind its beginning
+abbrev pub double_there : Area → ℕ → Option Loc
+double_there area n =
+    if nat_lt n (first_double doubles.Dint) then None
+    else if nat_lt n (first_double doubles.Time) then double_loc area doubles.Dint (n - first_double doubles.Dint)
+    else if nat_lt n (first_double doubles.Real) then double_loc area doubles.Time (n - first_double doubles.Time)
+    else double_loc area doubles.Real (n - first_double doubles.Real)
+
+-- the bit, the word or the double word of an area that stands so far behind its beginning
 abbrev pub area_loc : Area → ℕ → Option Loc
 area_loc area n =
     if nat_lt n BITS then Some (Bit area n)
     else (if nat_lt n first_word then None
-    else (if nat_lt n (first_word + WORDS) then Some (Word area (n - first_word)) else None))
+    else (if nat_lt n (first_word + WORDS) then Some (Word area (n - first_word)) else double_there area n))
 
 -- the location that a code stands for
 abbrev pub any_loc : ℕ → Option Loc

@@ -1,7 +1,7 @@
 -- What the numbers in an image stand for: types, locations, operators, letters, operands.
 use Rattle.std.specs.Prelude.{ℕ, zero, suc, ◌-◌, Bool, true, false, not, ◌&&◌, ◌||◌, List, [], ◌∷◌, slice_get, Option, Some}
-use Rattle.std.specs.Prelude.{None, ℤ, is_some, is_none, nat_lt, nat_eq, if◌then◌else◌}
-use Rattle.std.specs.List.{position}
+use Rattle.std.specs.Prelude.{None, ℤ, is_some, is_none, nat_lt, nat_le, nat_eq, if◌then◌else◌}
+use Rattle.std.specs.List.{position, list_any}
 use Rattle.std.specs.Option.{option_map, option_and_then}
 use Rattle.il_model.specs.declared.value.Ty.{Ty}
 use Rattle.il_model.specs.declared.value.Ty.TheVariants as types
@@ -32,11 +32,12 @@ use Rattle.il_model.specs.Words.{same_name, is_lawful_name}
 use Rattle.il_model.specs.Kinds.{kind_fields, field_name}
 use Rattle.il_model.specs.Program.{Declarations}
 use Rattle.il_model.specs.Resolved.{instance_in}
-use Rattle.il_model.specs.Locations.{area_of}
+use Rattle.il_model.specs.Locations.{area_of, parts_of, is_nameable}
+use Rattle.il_model.specs.Row.{same_type}
 use Rattle.il_model.specs.Typing.{loc_type, is_writable_area}
 use Rattle.il_model.specs.Marks.{Mark}
 use Rattle.il_model.specs.Constants.{same_value}
-use Rattle.il_model.specs.Image.{type_version, op_version, may_have}
+use Rattle.il_model.specs.Image.{type_version, op_version, may_have, may_lie, may_retain, may_name}
 use Rattle.il_model.specs.Functions.{function_list}
 use Rattle.il_model.specs.declared.coded_operand.CodedOperand.{CodedOperand}
 use Rattle.il_model.specs.declared.coded_operand.CodedOperand.TheVariants as coded
@@ -82,21 +83,38 @@ version_numbered n = None
 abbrev pub type_in : Version → ℕ → Option Ty
 type_in version n = option_and_then (if_passes (λ t. may_have version (type_version t))) (type_of n)
 
+-- ---- a declaration's code: that of a type or of a kind, with 128 more where what is declared is retained
+
+abbrev pub says_retained : ℕ → Bool
+says_retained code = nat_le 128 code
+
+-- whether it is retained, where an image of this version may have that
+abbrev pub retained_in : Version → ℕ → Option Bool
+retained_in version code = if_passes (may_retain version) (says_retained code)
+
+-- the code itself
+abbrev pub plain_code : ℕ → ℕ
+plain_code code = if says_retained code then code - 128 else code
+
+-- the bit or the word of this code is one of those that a location is
 abbrev pub has_code : ℕ → Option Loc → Bool
 has_code n None = false
-has_code n (Some loc) = nat_eq (loc_code loc) n
+has_code n (Some loc) = list_any (λ part. nat_eq (loc_code part) n) (parts_of loc)
 
 abbrev pub is_taken : List Variable → ℕ → Bool
 is_taken seen n = is_some (position (λ (v : Variable). has_code n v.location) seen)
 
-abbrev pub is_type : Ty → Option Ty → Bool
-is_type types.Bool (Some types.Bool) = true
-is_type types.Int (Some types.Int) = true
-is_type t o = false
+-- a variable lies at one of the bits or words that a location is
+abbrev pub is_overlapped : List Variable → Loc → Bool
+is_overlapped seen loc = list_any (λ part. is_taken seen (loc_code part)) (parts_of loc)
 
--- a location of the type, which no other variable has
+abbrev pub is_type : Ty → Option Ty → Bool
+is_type t None = false
+is_type t (Some u) = same_type t u
+
+-- a location of the type, of which no other variable has a part
 abbrev pub is_free : List Variable → Ty → Loc → Bool
-is_free seen t loc = is_type t (loc_type loc) && not (is_taken seen (loc_code loc))
+is_free seen t loc = is_type t (loc_type loc) && not (is_overlapped seen loc)
 
 -- where a variable may lie: at no location, or at a free one
 abbrev pub free_loc : List Variable → Ty → CodedOperand → Option (Option Loc)
@@ -106,6 +124,10 @@ free_loc seen t operand = None
 
 abbrev pub coded_location : List Variable → Ty → ℕ → Option (Option Loc)
 coded_location seen t n = option_and_then (free_loc seen t) (with_code n)
+
+-- that, where an image of this version may have it
+abbrev pub coded_location_in : Version → List Variable → Ty → ℕ → Option (Option Loc)
+coded_location_in version seen t n = option_and_then (if_passes (may_lie version)) (coded_location seen t n)
 
 -- an input has no first value of its own
 abbrev pub may_start_with : Option Loc → Value → Bool
@@ -235,7 +257,7 @@ letters_of op n = option_and_then (if_passes (allowed_by (usage_of op))) (modifi
 
 -- the operand that stands under those numbers, if the declarations and the constants have it
 abbrev pub named_operand : Declarations → List Value → CodedOperand → Option Operand
-named_operand ds constants (coded.Location loc) = Some (operands.Direct loc)
+named_operand ds constants (coded.Location loc) = if is_nameable loc then Some (operands.Direct loc) else None
 named_operand ds constants (coded.Variable i) = variable_named (slice_get ds.variables i)
 named_operand ds constants (coded.Field i n) = field_named (slice_get ds.instances i) n
 named_operand ds constants (coded.Constant k) = option_map operands.Literal (slice_get constants k)
@@ -276,6 +298,11 @@ abbrev pub word_operand : Declarations → List Mark → List Value → Op → M
 word_operand ds marks constants op m n =
     option_and_then (if_passes (formed_by (usage_of op) m)) (numbered_operand ds marks constants op n)
 
+-- that, where an image of this version may have it
+abbrev pub word_operand_in : Version → Declarations → List Mark → List Value → Op → Modifier → ℕ → Option Operand
+word_operand_in version ds marks constants op m n =
+    option_and_then (if_passes (may_name version)) (word_operand ds marks constants op m n)
+
 -- ---- the words of arguments
 
 abbrev pub side_of : ℕ → Option Side
@@ -289,6 +316,11 @@ argument_number n = if nat_lt n 8 then Some n else None
 abbrev pub argument_operand : Declarations → List Value → ℕ → Option Operand
 argument_operand ds constants n =
     option_and_then (if_passes (has_form forms.Value false)) (value_operand ds constants n)
+
+-- that, where an image of this version may have it
+abbrev pub argument_operand_in : Version → Declarations → List Value → ℕ → Option Operand
+argument_operand_in version ds constants n =
+    option_and_then (if_passes (may_name version)) (argument_operand ds constants n)
 
 -- the name of the field with a number; a number that the kind hasn't is the empty name, which no field has
 abbrev pub argument_name : Option BlockKind → ℕ → List ℕ

@@ -1,4 +1,5 @@
--- The words and the literals of a text, by its dialect: those of every text, and in an extended text more.
+-- The words, the literals and the locations of a text, by its dialect: those of every text, and in an extended text
+-- more.
 use Rattle.std.specs.Prelude.{ℕ, List, Option, Some, None}
 use Rattle.il_model.specs.declared.dialect.Dialect.{Dialect}
 use Rattle.il_model.specs.declared.dialect.Dialect.TheVariants as dialects
@@ -9,6 +10,8 @@ use Rattle.il_model.specs.declared.words.Mnemonic.{Mnemonic}
 use Rattle.il_model.specs.Words.{plain, mnemonic_of, extended_mnemonic_of}
 use Rattle.il_model.specs.Functions.{function_named}
 use Rattle.il_model.specs.Literals.{literal_of, extended_literal_of}
+use Rattle.il_model.specs.declared.program.Loc.{Loc}
+use Rattle.il_model.specs.Locations.{location_of, extended_location_of}
 
 abbrev pub applied : Option Function → Option Mnemonic
 applied (Some f) = Some (record { op = ops.Apply f; modifier = plain })
@@ -33,3 +36,8 @@ operator_in dialects.Extended word = or_extended word (mnemonic_of word)
 abbrev pub literal_in : Dialect → List ℕ → Option Literal
 literal_in dialects.Plain text = literal_of text
 literal_in dialects.Extended text = extended_literal_of text
+
+-- the location that a text is
+abbrev pub location_in : Dialect → List ℕ → Option Loc
+location_in dialects.Plain text = location_of text
+location_in dialects.Extended text = extended_location_of text

@@ -13,6 +13,7 @@ use Rattle.il_model.specs.declared.codes.Version.TheVariants as versions
 use Rattle.il_model.specs.declared.op.Op.TheVariants as ops
 use Rattle.il_model.specs.declared.op.Modifier.{Modifier}
 use Rattle.il_model.specs.declared.program.Loc.{Loc}
+use Rattle.il_model.specs.declared.program.Loc.TheVariants.{Double}
 use Rattle.il_model.specs.declared.program.Place.{Place}
 use Rattle.il_model.specs.declared.program.Place.TheVariants as places
 use Rattle.il_model.specs.declared.program.Variable.{Variable}
@@ -35,7 +36,7 @@ use Rattle.il_model.specs.Program.{Program, Declarations, declared_by}
 use Rattle.il_model.specs.Kinds.{kind_code, field_number}
 use Rattle.il_model.specs.Resolved.{target_of, instance_in, field_in, called_kind}
 use Rattle.il_model.specs.Marks.{Mark, marks_from, words_in, address_of}
-use Rattle.il_model.specs.Constants.{same_value, constants_of}
+use Rattle.il_model.specs.Constants.{same_value, constants_of, operands_in}
 use Rattle.il_model.specs.Functions.{function_code}
 
 abbrev pub type_code : Ty → ℕ
@@ -53,7 +54,8 @@ location_code (Some loc) = code_of (coded.Location loc)
 abbrev pub name_bytes : List ℕ → List ℕ
 name_bytes name = to_be_bytes w8 (length name) ++ name
 
--- ---- versions: the second came with LINT, and has numbers of 64 bits, as the third, which came with REAL
+-- ---- versions: the second came with LINT, and has numbers of 64 bits, as the third, which came with REAL, functions,
+-- double words and what is retained
 
 abbrev pub version_number : Version → ℕ
 version_number versions.One = 1
@@ -84,6 +86,24 @@ op_version ops.Max = versions.Three
 op_version (ops.Apply f) = versions.Three
 op_version _ = versions.One
 
+-- the version that a location came with: double words with the third
+abbrev pub location_version : Loc → Version
+location_version (Double a n t) = versions.Three
+location_version loc = versions.One
+
+abbrev pub place_version : Option Loc → Version
+place_version None = versions.One
+place_version (Some loc) = location_version loc
+
+abbrev pub operand_version : Operand → Version
+operand_version (operands.Direct loc) = location_version loc
+operand_version operand = versions.One
+
+-- the version that being retained came with
+abbrev pub retained_version : Bool → Version
+retained_version true = versions.Three
+retained_version false = versions.One
+
 -- an image of a version may have what came with this one or an earlier one
 abbrev pub may_have : Version → Version → Bool
 may_have versions.One versions.One = true
@@ -91,36 +111,61 @@ may_have versions.One needed = false
 may_have versions.Two versions.Three = false
 may_have version needed = true
 
--- by its type and by its first value: in each program that has an image the two are of one type
+abbrev pub may_lie : Version → Option Loc → Bool
+may_lie version place = may_have version (place_version place)
+
+abbrev pub may_retain : Version → Bool → Bool
+may_retain version retained = may_have version (retained_version retained)
+
+-- by its type, by its first value (in each program that has an image the two are of one type), by its location, and by
+-- whether it's retained
 abbrev pub may_declare : Version → Variable → Bool
-may_declare version v = may_have version (type_version v.ty) && may_have version (value_version v.initial)
+may_declare version v = may_have version (type_version v.ty)
+    && (may_have version (value_version v.initial) && (may_lie version v.location && may_retain version v.retained))
+
+abbrev pub may_instantiate : Version → Instance → Bool
+may_instantiate version x = may_retain version x.retained
 
 abbrev pub may_keep : Version → Value → Bool
 may_keep version v = may_have version (value_version v)
 
+abbrev pub may_name : Version → Operand → Bool
+may_name version operand = may_have version (operand_version operand)
+
+-- by its operator, and by its operand and those of its arguments
 abbrev pub may_write : Version → Instr → Bool
-may_write version line = may_have version (op_version line.op)
+may_write version line = may_have version (op_version line.op) && list_all (may_name version) (operands_in line)
 
 -- an image of a version may have all of this
-abbrev pub suffices : Version → List Variable → List Value → List Instr → Bool
-suffices version variables constants code = list_all (may_declare version) variables
-    && (list_all (may_keep version) constants && list_all (may_write version) code)
+abbrev pub suffices : Version → List Variable → List Instance → List Value → List Instr → Bool
+suffices version variables instances constants code = list_all (may_declare version) variables
+    && (list_all (may_instantiate version) instances
+    && (list_all (may_keep version) constants && list_all (may_write version) code))
 
 -- the first version that suffices; the third always does
-abbrev pub version_with : List Variable → List Value → List Instr → Version
-version_with variables constants code = if suffices versions.One variables constants code then versions.One
-    else (if suffices versions.Two variables constants code then versions.Two else versions.Three)
+abbrev pub version_with : List Variable → List Instance → List Value → List Instr → Version
+version_with variables instances constants code =
+    if suffices versions.One variables instances constants code then versions.One
+    else (if suffices versions.Two variables instances constants code then versions.Two else versions.Three)
 
 abbrev pub version_of : Program → Version
-version_of Q = version_with Q.variables (constants_of Q) Q.code
+version_of Q = version_with Q.variables Q.instances (constants_of Q) Q.code
 
 -- a number as an image of this version has it
 abbrev pub number_bytes : Version → ℤ → List ℕ
 number_bytes version z = to_be_bytes (number_width version) (cast_unsigned (number_width version) z)
 
+abbrev pub flag : Bool → ℕ → ℕ
+flag true n = n
+flag false n = 0
+
+-- the code of a type or of a kind as a declaration has it: 128 more where what is declared is retained
+abbrev pub declared_code : Bool → ℕ → ℕ
+declared_code retained code = flag retained 128 + code
+
 abbrev pub variable_bytes : Version → Variable → List ℕ
 variable_bytes version v = name_bytes v.name
-    ++ (to_be_bytes w8 (type_code v.ty)
+    ++ (to_be_bytes w8 (declared_code v.retained (type_code v.ty))
     ++ (to_be_bytes w16 (location_code v.location) ++ number_bytes version (number_of v.initial)))
 
 abbrev pub op_code : Op → ℕ
@@ -155,10 +200,6 @@ op_code ops.LintToDint = 29
 op_code ops.Min = 30
 op_code ops.Max = 31
 op_code (ops.Apply f) = function_code f
-
-abbrev pub flag : Bool → ℕ → ℕ
-flag true n = n
-flag false n = 0
 
 abbrev pub modifier_code : Modifier → ℕ
 modifier_code m = flag m.negated 1 + (flag m.conditional 2 + flag m.opens 4)
@@ -233,7 +274,7 @@ instruction_bytes Q constants line = word_bytes Q constants line
     ++ flat_map (argument_bytes Q constants (called_kind Q line.operand)) line.arguments
 
 abbrev pub instance_bytes : Instance → List ℕ
-instance_bytes x = name_bytes x.name ++ to_be_bytes w8 (kind_code x.kind)
+instance_bytes x = name_bytes x.name ++ to_be_bytes w8 (declared_code x.retained (kind_code x.kind))
 
 -- how many variables, instances, labels, constants and words there are
 abbrev pub counts_bytes : ℕ → ℕ → ℕ → ℕ → ℕ → List ℕ

@@ -10,17 +10,18 @@ use Rattle.il_model.specs.Values.{typed_value, ty_of, number_of}
 use Rattle.il_model.specs.Words.{is_lawful_name}
 use Rattle.il_model.specs.Program.{Declarations}
 use Rattle.il_model.specs.Resolved.{instance_in}
+use Rattle.il_model.specs.Locations.{is_nameable}
 use Rattle.il_model.specs.CodedOperands.{IsCell}
 use Rattle.il_model.specs.Codes.{is_number, length_of, usage_of, allowed_by, formed_by, has_form, is_pointless}
 
--- a value that fits its type, a variable or an instance that is declared, a location that is there, and of a bare
--- number what is asked of it; labels and fields are judged with the types
+-- a value that fits its type, a variable or an instance that is declared, a location that is there and can be named,
+-- and of a bare number what is asked of it; labels and fields are judged with the types
 abbrev pub IsOperandOf : (ℤ → Type 0) → Declarations → Operand → Type 0
 IsOperandOf IsNumber ds operands.Absent = Unit {0}
 IsOperandOf IsNumber ds (operands.Literal v) = typed_value (ty_of v) (number_of v) ≡ Some v
 IsOperandOf IsNumber ds (operands.Bare z) = IsNumber z
 IsOperandOf IsNumber ds (operands.Variable name) = is_some (is_number ds.variables name) ≡ true
-IsOperandOf IsNumber ds (operands.Direct loc) = IsCell loc
+IsOperandOf IsNumber ds (operands.Direct loc) = IsCell loc × (is_nameable loc ≡ true)
 IsOperandOf IsNumber ds (operands.Label name) = Unit {0}
 IsOperandOf IsNumber ds (operands.Field name field) = is_some (instance_in ds.instances name) ≡ true
 IsOperandOf IsNumber ds (operands.Instance name) = is_some (instance_in ds.instances name) ≡ true

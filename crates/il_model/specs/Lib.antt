@@ -3,6 +3,7 @@ pub mod Operators
 pub mod Functions
 pub mod Words
 pub mod Locations
+pub mod Doubles
 pub mod Program
 pub mod Resolved
 pub mod Row

@@ -12,7 +12,7 @@ use Rattle.il_model.specs.declared.op.Modifier.{Modifier}
 use Rattle.il_model.specs.declared.program.Area.{Area}
 use Rattle.il_model.specs.declared.program.Area.TheVariants as areas
 use Rattle.il_model.specs.declared.program.Loc.{Loc}
-use Rattle.il_model.specs.declared.program.Loc.TheVariants.{Bit, Word}
+use Rattle.il_model.specs.declared.program.Loc.TheVariants.{Bit, Word, Double}
 use Rattle.il_model.specs.declared.program.Place.{Place}
 use Rattle.il_model.specs.declared.program.Place.TheVariants.{Own, At}
 use Rattle.il_model.specs.declared.program.Place.TheVariants as places
@@ -30,7 +30,8 @@ use Rattle.il_model.specs.declared.fetched.Source.TheVariants as sources
 use Rattle.il_model.specs.declared.typing.Held.{Held}
 use Rattle.il_model.specs.Program.{Program}
 use Rattle.il_model.specs.Values.{ty_of}
-use Rattle.il_model.specs.Locations.{area_of}
+use Rattle.il_model.specs.Locations.{area_of, begins_double}
+use Rattle.il_model.specs.Doubles.{double_type}
 use Rattle.il_model.specs.Kinds.{kind_fields, field_number, field_type, is_input}
 use Rattle.il_model.specs.Words.{AreDistinct}
 use Rattle.il_model.specs.declared.function.Function.{Function}
@@ -43,6 +44,7 @@ use Rattle.il_model.specs.Resolved.{source_of, target_of, is_labelled, called_ki
 abbrev pub loc_type : Loc → Option Ty
 loc_type (Bit a n) = if nat_lt n BITS then Some types.Bool else None
 loc_type (Word a n) = if nat_lt n WORDS then Some types.Int else None
+loc_type (Double a n t) = if begins_double n then Some (double_type t) else None
 
 -- the field of an instance by its number
 abbrev pub field_at : Program → ℕ → ℕ → Option Field

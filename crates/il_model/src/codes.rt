@@ -1,18 +1,22 @@
 //! The numbers that stand for the parts of a program in an image, both ways.
 
-ghost use Rattle.std.specs.Prelude.{◌≡◌, Some, false};
+ghost use Rattle.std.specs.Prelude.{◌≡◌, ◌<◌, ◌^◌, Some, false};
 ghost use Rattle.std.specs.List.{list_all};
 ghost use Rattle.il_model.specs.declared.codes.OperandForm.TheVariants as forms;
+ghost use Rattle.il_model.specs.declared.program.Argument.{Argument};
 ghost use Rattle.il_model.specs.Image.{type_code, location_code, op_code, version_number, type_version, op_version};
-ghost use Rattle.il_model.specs.Image.{may_have, may_declare, may_keep, may_write, suffices, version_with, flag};
+ghost use Rattle.il_model.specs.Image.{location_version, place_version, operand_version, retained_version, may_have};
+ghost use Rattle.il_model.specs.Image.{may_lie, may_retain, may_declare, may_instantiate, may_keep, declared_code};
+ghost use Rattle.il_model.specs.Image.{may_name, may_write, suffices, version_with, flag};
 ghost use Rattle.il_model.specs.Image.{modifier_code, side_code};
+ghost use Rattle.il_model.specs.Constants.{operands_in};
 ghost use Rattle.il_model.specs.Codes.{length_of, type_of, type_in, op_in, version_numbered, is_type, may_start_with};
 ghost use Rattle.il_model.specs.Codes.{initial_of, op_of, modifier_of, usage_of, allows, has_form, allowed_by};
-ghost use Rattle.il_model.specs.Codes.{formed_by, letters_of, side_of, is_pointless};
+ghost use Rattle.il_model.specs.Codes.{formed_by, letters_of, side_of, is_pointless, retained_in, plain_code};
 
 use crate::coded_operand::CodedOperand;
 use crate::op::{Modifier, Op};
-use crate::program::{Instr, Loc, Operand, Side, Variable};
+use crate::program::{Argument, Instance, Instr, Loc, Operand, Side, Variable};
 use crate::resolve::in_writable_area;
 use crate::value::{Ty, Value, make};
 
@@ -21,7 +25,8 @@ pub const MAGIC: [u8; 4] = *b"ILPC";
 
 /// The code of a type.
 pub fn type_code(ty: Ty) -> usize
-    ensures { result ≡ type_code ty }
+    ensures code { result ≡ type_code ty }
+    ensures small { result < 2 ^ 8 }
 {
     match ty {
         Ty::Bool => 0,
@@ -62,14 +67,14 @@ pub fn location_code(location: Option<Loc>) -> usize
 pub fn is_type(ty: Ty, other: Option<Ty>) -> bool
     ensures { result ≡ is_type ty other }
 {
-    match (ty, other) {
-        (Ty::Bool, Some(Ty::Bool)) => true,
-        (Ty::Int, Some(Ty::Int)) => true,
-        _ => false,
+    match other {
+        Some(other) => ty == other,
+        None => false,
     }
 }
 
-/// The version of an image: from the second on each initial value and constant has 64 bits; the third came with REAL.
+/// The version of an image: from the second on each initial value and constant has 64 bits; the third came with REAL,
+/// double words and what is retained.
 #[derive(Clone, Copy, PartialEq, Eq)]
 pub enum Version {
     One,
@@ -113,10 +118,40 @@ impl Version {
         }
     }
 
+    /// Whether a variable of an image of this version may lie there.
+    pub fn may_lie(self, location: Option<Loc>) -> bool
+        ensures { result ≡ may_lie self location }
+    {
+        self.may_have(place_version(location))
+    }
+
+    /// Whether an image of this version may have a variable or an instance that is so: retained, or not.
+    pub fn may_retain(self, retained: bool) -> bool
+        ensures { result ≡ may_retain self retained }
+    {
+        self.may_have(retained_version(retained))
+    }
+
+    /// Whether an instruction or an argument of an image of this version may have this operand.
+    pub fn may_name(self, operand: &Operand) -> bool
+        ensures { result ≡ may_name self operand.now }
+    {
+        self.may_have(operand_version(operand))
+    }
+
     fn may_declare(self, v: &Variable) -> bool
         ensures { result ≡ may_declare self v.now }
     {
-        self.may_have(type_version(v.ty)) && self.may_keep(v.initial)
+        self.may_have(type_version(v.ty))
+            && self.may_keep(v.initial)
+            && self.may_lie(v.location)
+            && self.may_retain(v.retained)
+    }
+
+    fn may_instantiate(self, x: &Instance) -> bool
+        ensures { result ≡ may_instantiate self x.now }
+    {
+        self.may_retain(x.retained)
     }
 
     fn may_keep(self, v: Value) -> bool
@@ -125,16 +160,40 @@ impl Version {
         self.may_have(type_version(v.ty()))
     }
 
+    fn may_pass(self, argument: &Argument) -> bool
+        ensures { result ≡ may_name self argument.now.operand }
+    {
+        self.may_name(&argument.operand)
+    }
+
+    fn may_pass_all(self, arguments: &[Argument]) -> bool
+        ensures { result ≡ list_all (λ (a : Argument). may_name self a.operand) arguments.now }
+    {
+        arguments.iter().all(|a| self.may_pass(a))
+    }
+
+    fn may_name_all_in(self, line: &Instr) -> bool
+        ensures { result ≡ list_all (may_name self) (operands_in line.now) }
+    {
+        self.may_name(&line.operand) && self.may_pass_all(line.arguments.as_slice())
+    }
+
     fn may_write(self, line: &Instr) -> bool
         ensures { result ≡ may_write self line.now }
     {
-        self.may_have(op_version(line.op))
+        self.may_have(op_version(line.op)) && self.may_name_all_in(line)
     }
 
     fn may_declare_all(self, variables: &[Variable]) -> bool
         ensures { result ≡ list_all (may_declare self) variables.now }
     {
         variables.iter().all(|v| self.may_declare(v))
+    }
+
+    fn may_instantiate_all(self, instances: &[Instance]) -> bool
+        ensures { result ≡ list_all (may_instantiate self) instances.now }
+    {
+        instances.iter().all(|x| self.may_instantiate(x))
     }
 
     fn may_keep_all(self, constants: &[Value]) -> bool
@@ -150,10 +209,19 @@ impl Version {
     }
 
     /// Whether an image of this version may have all of this.
-    fn suffices(self, variables: &[Variable], constants: &[Value], code: &[Instr]) -> bool
-        ensures { result ≡ suffices self variables.now constants.now code.now }
+    fn suffices(
+        self,
+        variables: &[Variable],
+        instances: &[Instance],
+        constants: &[Value],
+        code: &[Instr],
+    ) -> bool
+        ensures { result ≡ suffices self variables.now instances.now constants.now code.now }
     {
-        self.may_declare_all(variables) && self.may_keep_all(constants) && self.may_write_all(code)
+        self.may_declare_all(variables)
+            && self.may_instantiate_all(instances)
+            && self.may_keep_all(constants)
+            && self.may_write_all(code)
     }
 }
 
@@ -179,13 +247,59 @@ pub fn op_version(op: Op) -> Version
     }
 }
 
-/// The version of a program with these variables, constants and instructions: the first that suffices.
-pub fn version_with(variables: &[Variable], constants: &[Value], code: &[Instr]) -> Version
-    ensures { result ≡ version_with variables.now constants.now code.now }
+/// The version that a location came with.
+fn location_version(loc: Loc) -> Version
+    ensures { result ≡ location_version loc }
 {
-    if Version::One.suffices(variables, constants, code) {
+    match loc {
+        Loc::Double(_, _, _) => Version::Three,
+        _ => Version::One,
+    }
+}
+
+/// The version that the place of a variable came with.
+fn place_version(location: Option<Loc>) -> Version
+    ensures { result ≡ place_version location }
+{
+    match location {
+        Some(loc) => location_version(loc),
+        None => Version::One,
+    }
+}
+
+/// The version that an operand came with.
+fn operand_version(operand: &Operand) -> Version
+    ensures { result ≡ operand_version operand.now }
+{
+    match operand {
+        Operand::Direct(loc) => location_version(*loc),
+        _ => Version::One,
+    }
+}
+
+/// The version that a declaration came with, by whether it says that what it declares is retained.
+fn retained_version(retained: bool) -> Version
+    ensures { result ≡ retained_version retained }
+{
+    if retained {
+        Version::Three
+    } else {
         Version::One
-    } else if Version::Two.suffices(variables, constants, code) {
+    }
+}
+
+/// The version of a program with these variables, instances, constants and instructions: the first that suffices.
+pub fn version_with(
+    variables: &[Variable],
+    instances: &[Instance],
+    constants: &[Value],
+    code: &[Instr],
+) -> Version
+    ensures { result ≡ version_with variables.now instances.now constants.now code.now }
+{
+    if Version::One.suffices(variables, instances, constants, code) {
+        Version::One
+    } else if Version::Two.suffices(variables, instances, constants, code) {
         Version::Two
     } else {
         Version::Three
@@ -218,6 +332,33 @@ pub fn op_code(op: Op) -> usize
     ensures { result ≡ op_code op }
 {
     usize::from(op.code())
+}
+
+/// The code of a type or of a kind as a declaration has it: bit 7 is set where what is declared is retained.
+pub fn declared_code(retained: bool, code: usize) -> usize
+    requires { code < 2 ^ 8 }
+    ensures { result ≡ declared_code retained code }
+{
+    flag(retained, 128) + code
+}
+
+/// Whether what a declaration's code stands for is retained; none where an image of this version has no such code.
+pub fn retained_in(version: Version, code: u8) -> Option<bool>
+    ensures { result ≡ retained_in version code }
+{
+    let retained = code >= 128;
+    if version.may_retain(retained) {
+        Some(retained)
+    } else {
+        None
+    }
+}
+
+/// The code of the type or of the kind in a declaration's code.
+pub fn plain_code(code: u8) -> u8
+    ensures { result ≡ plain_code code }
+{
+    if code >= 128 { code - 128 } else { code }
 }
 
 /// The type of a code in an image of this version.

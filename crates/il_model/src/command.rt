@@ -30,6 +30,9 @@ pub enum Command {
     ReadCr,
     /// Starts cold again; forces, breakpoints, the moment and the count of scans stay.
     Reset,
+    /// Starts warm (IEC 61131-3:2003, 2.4.2): as `Reset`, but retained variables keep their values, and retained
+    /// instances their inputs and states.
+    Warm,
     /// Goes on with another program: the one whose image these bytes are, if they are one.
     Change(ImageBytes),
 }
@@ -106,6 +109,7 @@ impl Command {
             Command::ReadVar(slot) => Command::ReadVar(*slot),
             Command::ReadCr => Command::ReadCr,
             Command::Reset => Command::Reset,
+            Command::Warm => Command::Warm,
             Command::Change(bytes) => Command::Change(bytes.copy(alloc)?),
         })
     }

@@ -1,17 +1,20 @@
-//! Dialects: the words and the literals of a text.
+//! Dialects: the words, the literals and the locations of a text.
 
 ghost use Rattle.std.specs.Prelude.{◌≡◌};
 ghost use Rattle.il_model.specs.Words.{plain, extended_mnemonic_of};
 ghost use Rattle.il_model.specs.Functions.{function_named};
-ghost use Rattle.il_model.specs.Dialects.{applied, or_function, operator_in, literal_in};
+ghost use Rattle.il_model.specs.Dialects.{applied, or_function, operator_in, literal_in, location_in};
 
 use crate::function::{Function, function_from};
 use crate::literal::Literal;
+use crate::location::{extended_location, location};
 use crate::op::{Modifier, Op};
+use crate::program::Loc;
 use crate::words::{Mnemonic, extended_mnemonic_from, mnemonic_from};
 use crate::written::{extended_literal, literal};
 
-/// What may stand in a text: the words and literals of every text, or those and REAL, MIN, MAX and the functions.
+/// What may stand in a text: the words and literals of every text, or those and REAL, MIN, MAX, the functions and
+/// double words.
 #[derive(Clone, Copy, Debug, PartialEq, Eq)]
 pub enum Dialect {
     Plain,
@@ -68,6 +71,16 @@ impl Dialect {
         match self {
             Dialect::Plain => literal(text),
             Dialect::Extended => extended_literal(text),
+        }
+    }
+
+    /// The location that a text with a % in front is in a text of this dialect; a double word is DINT.
+    pub fn location(self, text: &[u8]) -> Option<Loc>
+        ensures { result ≡ location_in self text.now }
+    {
+        match self {
+            Dialect::Plain => location(text),
+            Dialect::Extended => extended_location(text),
         }
     }
 }

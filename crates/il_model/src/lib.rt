@@ -10,10 +10,11 @@
 //! ```
 //!
 //! Proved: each table of the code is its definition. An operator gives its result on unbounded numbers, or the stop
-//! where that doesn't fit; each code is read back as what it was written for; `literal_from` gives exactly the value of
-//! a literal. `check_types` finds no fault exactly where a program is typed, which a relation says that names none
-//! (`know_typed`, `specs/Typing`), else it tells the fault of the least instruction, and which that is is a law too
-//! (`the_first_fault_is_told`). A program has at most one typed program (`settling`).
+//! where that doesn't fit; each code is read back as what it was written for, and the two words of a double word as the
+//! value that they were made of; `literal_from` gives exactly the value of a literal. `check_types` finds no fault
+//! exactly where a program is typed, which a relation says that names none (`know_typed`, `specs/Typing`), else it
+//! tells the fault of the least instruction, and which that is is a law too (`the_first_fault_is_told`). A program has
+//! at most one typed program (`settling`).
 //!
 //! Only tested: nothing; rows of `tests_rows` show it at work.
 #![tactic(auto)]
@@ -27,6 +28,7 @@ mod codes;
 mod command;
 mod constant_table;
 mod dialect;
+mod double;
 mod duration;
 mod faulty;
 mod fetched;
@@ -63,6 +65,7 @@ pub use coded_operand::CodedOperand;
 pub use coded_operand::FIRST_CONSTANT;
 pub use codes::MAGIC;
 pub use codes::Version;
+pub use codes::declared_code;
 pub use codes::initial_of;
 pub use codes::is_formed;
 pub use codes::is_passed;
@@ -75,6 +78,8 @@ pub use codes::modifier_code;
 pub use codes::op_code;
 pub use codes::op_in;
 pub use codes::op_of;
+pub use codes::plain_code;
+pub use codes::retained_in;
 pub use codes::side_code;
 pub use codes::side_of;
 pub use codes::type_code;
@@ -86,6 +91,8 @@ pub use command::Command;
 pub use command::Refusal;
 pub use constant_table::Constants;
 pub use dialect::Dialect;
+pub use double::seen_as;
+pub use double::words_of;
 pub use faulty::faulty_word;
 pub use fetched::Deferred;
 pub use fetched::Fetched;
@@ -107,7 +114,9 @@ pub use limits::MOST_VARIABLES;
 pub use limits::WORDS;
 pub use literal::Literal;
 pub use location::dot;
+pub use location::extended_location as extended_location_from;
 pub use location::location as location_from;
+pub use location_table::is_overlapping;
 pub use location_table::put_code;
 pub use name::Name;
 pub use name::is_lawful_name;
@@ -127,6 +136,7 @@ pub use op::within;
 pub use program::Area;
 pub use program::Argument;
 pub use program::Arguments;
+pub use program::DoubleType;
 pub use program::Instance;
 pub use program::Instr;
 pub use program::Loc;

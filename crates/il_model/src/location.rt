@@ -3,11 +3,12 @@
 ghost use Rattle.std.specs.Prelude.{◌≡◌};
 ghost use Rattle.std.specs.List.{prefix_len};
 ghost use Rattle.il_model.specs.Locations.{is_no_dot, dot_at, bit_of, word_of, letter_area, bit_at, word_at, place_at};
-ghost use Rattle.il_model.specs.Locations.{location_of};
+ghost use Rattle.il_model.specs.Locations.{location_of, double_of, double_at, double_location_of};
+ghost use Rattle.il_model.specs.Locations.{begins_double, extended_location_of};
 
 use crate::limits::WORDS;
 use crate::literal::integer;
-use crate::program::{Area, Loc};
+use crate::program::{Area, DoubleType, Loc};
 use crate::words::capital;
 
 fn bit(area: Area, byte: Option<u64>, bit: Option<u64>) -> Option<Loc>
@@ -89,5 +90,52 @@ pub fn location(text: &[u8]) -> Option<Loc>
     match text {
         [_, letter, others @ ..] => place(area(*letter)?, others),
         _ => None,
+    }
+}
+
+/// Whether a double word begins at the word with this number: at each even one.
+pub fn begins_double(n: u64) -> bool
+    ensures { result ≡ begins_double n }
+{
+    n < WORDS as u64 && n % 2 == 0
+}
+
+/// A double word, which is DINT by itself.
+#[tactic(auto, using(crate::proofs::LocationLaws::double_fits))]
+fn double_word(area: Area, number: Option<u64>) -> Option<Loc>
+    ensures { result ≡ double_of area number }
+{
+    match number {
+        Some(k) if begins_double(k) => Some(Loc::Double(area, k as u16, DoubleType::Dint)),
+        _ => None,
+    }
+}
+
+#[tactic(auto, unfolding(crate::specs::Locations::double_at), using(crate::proofs::LocationLaws::double_capped))]
+fn numbered_double_word(area: Area, bytes: &[u8]) -> Option<Loc>
+    ensures { result ≡ double_at area bytes.now }
+{
+    double_word(area, integer(10, bytes))
+}
+
+/// The double word that a text with a % in front is, as %ID4, or None where it is none.
+fn double_location(text: &[u8]) -> Option<Loc>
+    ensures { result ≡ double_location_of text.now }
+{
+    match text {
+        [_, letter, sort, others @ ..] if capital(*sort) == b'D' => {
+            numbered_double_word(area(*letter)?, others)
+        }
+        _ => None,
+    }
+}
+
+/// The location that an extended text with a % in front is, or None where it is none.
+pub fn extended_location(text: &[u8]) -> Option<Loc>
+    ensures { result ≡ extended_location_of text.now }
+{
+    match location(text) {
+        Some(loc) => Some(loc),
+        None => double_location(text),
     }
 }

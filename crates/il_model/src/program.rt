@@ -4,6 +4,7 @@ ghost use Rattle.std.specs.Prelude.{◌≡◌};
 
 use crate::kind::BlockKind;
 use crate::limits::{BITS, MOST_INSTANCES, MOST_INSTRUCTIONS, MOST_VARIABLES, WORDS};
+use crate::location::begins_double;
 use crate::name::Name;
 use crate::op::{Modifier, Op};
 use crate::value::{Ty, Value};
@@ -11,6 +12,13 @@ use std::marker::Model;
 
 /// How far the words of an area stand behind its first bit.
 const FIRST_WORD: u16 = 0x400;
+
+/// How far its double words that are DINT do, those that are TIME, and those that are REAL.
+const FIRST_DINT: u16 = 0x500;
+
+const FIRST_TIME: u16 = 0x600;
+
+const FIRST_REAL: u16 = 0x700;
 
 /// One of the three areas.
 #[derive(Clone, Copy, Debug, PartialEq, Eq)]
@@ -20,16 +28,26 @@ pub enum Area {
     Memory,
 }
 
-/// A location: the number of a bit or of a word in an area.
+/// The types that a double word may have.
+#[derive(Clone, Copy, Debug, PartialEq, Eq)]
+pub enum DoubleType {
+    Dint,
+    Time,
+    Real,
+}
+
+/// A location: the number of a bit or of a word in an area, or that of the first of two words that are one value, the
+/// high one first, and that value's type. The first of two has an even number.
 #[derive(Clone, Copy, Debug, PartialEq, Eq)]
 pub enum Loc {
     Bit(Area, u16),
     Word(Area, u16),
+    Double(Area, u16, DoubleType),
 }
 
 impl Area {
     ghost use Rattle.std.specs.Prelude.{◌≡◌};
-    ghost use Rattle.il_model.specs.CodedOperands.{base_of, area_loc};
+    ghost use Rattle.il_model.specs.CodedOperands.{base_of, double_loc, double_there, area_loc};
 
     /// The code of the first bit.
     fn base(self) -> u16
@@ -42,7 +60,33 @@ impl Area {
         }
     }
 
-    /// The bit or the word that stands so far behind the first bit.
+    /// The double word with this number, if one begins there.
+    fn double_word(self, n: u16, ty: DoubleType) -> Option<Loc>
+        ensures { result ≡ double_loc self ty n }
+    {
+        if begins_double(u64::from(n)) {
+            Some(Loc::Double(self, n, ty))
+        } else {
+            None
+        }
+    }
+
+    /// The double word that stands so far behind the first bit.
+    fn double_location(self, n: u16) -> Option<Loc>
+        ensures { result ≡ double_there self n }
+    {
+        if n < FIRST_DINT {
+            None
+        } else if n < FIRST_TIME {
+            self.double_word(n - FIRST_DINT, DoubleType::Dint)
+        } else if n < FIRST_REAL {
+            self.double_word(n - FIRST_TIME, DoubleType::Time)
+        } else {
+            self.double_word(n - FIRST_REAL, DoubleType::Real)
+        }
+    }
+
+    /// The bit, the word or the double word that stands so far behind the first bit.
     fn location(self, n: u16) -> Option<Loc>
         ensures { result ≡ area_loc self n }
     {
@@ -53,14 +97,30 @@ impl Area {
         } else if (n as usize) < FIRST_WORD as usize + WORDS {
             Some(Loc::Word(self, n - FIRST_WORD))
         } else {
-            None
+            self.double_location(n)
+        }
+    }
+}
+
+impl DoubleType {
+    ghost use Rattle.std.specs.Prelude.{◌≡◌};
+    ghost use Rattle.il_model.specs.CodedOperands.{first_double};
+
+    /// How far the double words of the type stand behind the first bit of an area.
+    fn first_code(self) -> u16
+        ensures { result ≡ first_double self }
+    {
+        match self {
+            DoubleType::Dint => FIRST_DINT,
+            DoubleType::Time => FIRST_TIME,
+            DoubleType::Real => FIRST_REAL,
         }
     }
 }
 
 impl Loc {
     ghost use Rattle.std.specs.Prelude.{◌≡◌};
-    ghost use Rattle.il_model.specs.Locations.{area_of};
+    ghost use Rattle.il_model.specs.Locations.{area_of, is_nameable};
     ghost use Rattle.il_model.specs.CodedOperands.{loc_code, any_loc};
 
     /// The area that it lies in.
@@ -68,7 +128,17 @@ impl Loc {
         ensures { result ≡ area_of self }
     {
         match self {
-            Loc::Bit(area, _) | Loc::Word(area, _) => area,
+            Loc::Bit(area, _) | Loc::Word(area, _) | Loc::Double(area, _, _) => area,
+        }
+    }
+
+    /// Whether an instruction can name it: a double word by itself is DINT.
+    pub fn is_nameable(self) -> bool
+        ensures { result ≡ is_nameable self }
+    {
+        match self {
+            Loc::Bit(_, _) | Loc::Word(_, _) | Loc::Double(_, _, DoubleType::Dint) => true,
+            Loc::Double(_, _, DoubleType::Time | DoubleType::Real) => false,
         }
     }
 
@@ -79,6 +149,9 @@ impl Loc {
         match self {
             Loc::Bit(area, n) => area.base() as usize + n as usize,
             Loc::Word(area, n) => area.base() as usize + (FIRST_WORD as usize + n as usize),
+            Loc::Double(area, n, ty) => {
+                area.base() as usize + (ty.first_code() as usize + n as usize)
+            }
         }
     }
 
@@ -107,20 +180,23 @@ pub enum Place {
     Field(u16, u8),
 }
 
-/// A declared variable.
+/// A declared variable. One that is retained keeps its value over a warm start (IEC 61131-3:2003, 2.4.2).
 #[derive(Drop)]
 pub struct Variable {
     pub name: Name,
     pub ty: Ty,
     pub location: Option<Loc>,
     pub initial: Value,
+    pub retained: bool,
 }
 
-/// A declared function block instance (IEC 61131-3:2003, 2.5.2).
+/// A declared function block instance (IEC 61131-3:2003, 2.5.2). One that is retained keeps its inputs and its state
+/// over a warm start.
 #[derive(Drop)]
 pub struct Instance {
     pub name: Name,
     pub kind: BlockKind,
+    pub retained: bool,
 }
 
 /// What an operator is given.

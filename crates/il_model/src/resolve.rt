@@ -7,9 +7,10 @@ ghost use Rattle.il_model.specs.Checking.{source_kind, missing_kind};
 ghost use Rattle.il_model.specs.Locations.{area_of};
 
 use crate::limits::{BITS, WORDS};
+use crate::location::begins_double;
 use crate::{Area, Field, Loc, Operand, OperandKind, Place, Program, Source, Ty};
 
-/// The type of a location: BOOL for a bit, INT for a word; none past its area.
+/// The type of a location: BOOL for a bit, INT for a word, its own for a double word; none past its area.
 pub fn loc_type(loc: Loc) -> Option<Ty>
     ensures { result ≡ loc_type loc }
 {
@@ -21,6 +22,11 @@ pub fn loc_type(loc: Loc) -> Option<Ty>
         },
         Loc::Word(_, n) => if (n as usize) < WORDS {
             Some(Ty::Int)
+        } else {
+            None
+        },
+        Loc::Double(_, n, ty) => if begins_double(u64::from(n)) {
+            Some(ty.ty())
         } else {
             None
         },
@@ -56,7 +62,7 @@ fn place_type(program: &Program, place: Place) -> Option<Ty>
 pub fn in_writable_area(loc: Loc) -> bool
     ensures { result ≡ is_writable_area (area_of loc) }
 {
-    !matches!(loc, Loc::Bit(Area::Input, _) | Loc::Word(Area::Input, _))
+    !matches!(loc.area(), Area::Input)
 }
 
 fn is_input_field(field: Option<Field>) -> bool

@@ -10,12 +10,12 @@ pub put_variables-requires : goal.put_variables-requires
 put_variables-requires c =
     let variables = c.as_slice-variables.result.now in
     subst (λ (version : Version). list_all (may_declare version) variables ≡ true) (sym c.version_with-version.ensures)
-    (version_may variables c.values.result.now c.code-code.result.now).0
+    (version_may variables c.as_slice-instances.result.now c.values.result.now c.code-code.result.now).0
 
 pub put_constants-requires : goal.put_constants-requires
 put_constants-requires c =
     let version = c.version_with-version.result in
     let may : list_all (may_keep version) c.values.result.now ≡ true =
     subst (λ (v : Version). list_all (may_keep v) c.values.result.now ≡ true) (sym c.version_with-version.ensures)
-    (version_may c.as_slice-variables.result.now c.values.result.now c.code-code.result.now).1 in
+    (version_may c.as_slice-variables.result.now c.as_slice-instances.result.now c.values.result.now c.code-code.result.now).2 in
     subst (λ (vs : List Value). list_all (may_keep version) vs ≡ true) (c.values.ensures ∙ sym c.values-3.ensures) may
