@@ -85,12 +85,12 @@ each_append step y (x ∷ xs) ys =
     bind_same (step y x) (λ z. each step z (xs ++ ys)) (λ z. each step z xs >>= λ w. each step w ys) (λ z. each_append step z xs ys)
     ∙ sym (bind_assoc (step y x) (λ z. each step z xs) (λ w. each step w ys))
 
-pub each_flat : {X Y : Type 0} (step : Y → X → Result Y FaultAt) (y : Y) (xss : List (List X)) → each (λ z xs. each step z xs) y xss ≡ each step y (flat_map (λ xs. xs) xss)
+pub each_flat : {B X Y : Type 0} (step : Y → X → Result Y FaultAt) (items : B → List X) (y : Y) (bs : List B) → each (λ z b. each step z (items b)) y bs ≡ each step y (flat_map items bs)
 unfolding each
-each_flat step y [] = refl
-each_flat step y (xs ∷ xss) =
-    bind_same (each step y xs) (λ z. each (λ w ys. each step w ys) z xss) (λ z. each step z (flat_map (λ ys. ys) xss)) (λ z. each_flat step z xss)
-    ∙ sym (each_append step y xs (flat_map (λ ys. ys) xss))
+each_flat step items y [] = refl
+each_flat step items y (b ∷ bs) =
+    bind_same (each step y (items b)) (λ z. each (λ w c. each step w (items c)) z bs) (λ z. each step z (flat_map items bs)) (λ z. each_flat step items z bs)
+    ∙ sym (each_append step y (items b) (flat_map items bs))
 
 -- ---- the list of faults
 

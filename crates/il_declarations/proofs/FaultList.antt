@@ -2,18 +2,17 @@
 use Rattle.std.specs.Prelude.{◌≡◌, ◌⊎◌, ℕ, List, [], ◌∷◌, ◌++◌, length, Option, Some, None, is_none, Bool, not, nat_le, if◌then◌else◌}
 use Rattle.std.specs.List.{flat_map}
 use Rattle.il_model.specs.declared.dialect.Dialect.{Dialect}
-use Rattle.il_model.specs.Dialects.{literal_in}
+use Rattle.il_model.specs.Dialects.{literal_in, location_in}
 use Rattle.il_model.specs.declared.program.Loc.{Loc}
 use Rattle.il_model.specs.Words.{is_reserved}
-use Rattle.il_model.specs.Locations.{location_of}
 use Rattle.il_reader.specs.Tokens.{Token}
-use Rattle.il_reader.specs.Grammar.{OperandText, Constant, Direct, Named, Field, BehindText, Nothing, Given, Target, Opened, Called, OperationText, LineText, Labelled, Plain, NamesText, Located, More, DeclarationText, ProgramText}
+use Rattle.il_reader.specs.Grammar.{OperandText, Constant, Direct, Named, Field, BehindText, Nothing, Given, Target, Opened, Called, OperationText, LineText, Labelled, Plain, NamesText, Located, More, ProgramText}
 use Rattle.il_declarations.specs.declared.variables.DeclaredType.{DeclaredType}
 use Rattle.il_declarations.specs.declared.fault.DeclKind.{DeclKind}
 use Rattle.il_declarations.specs.declared.fault.DeclKind.TheVariants as kinds
 use Rattle.il_declarations.specs.declared.fault.FaultAt.{FaultAt}
 use Rattle.il_declarations.specs.Resolution.{capitals}
-use Rattle.il_declarations.specs.Declaring.{DeclaredName, names_in, declarations_of, names_of, type_in, location_in, is_declared, names_variable, names_instance, arguments_behind}
+use Rattle.il_declarations.specs.Declaring.{DeclaredName, BlockDeclaration, names_in, declarations_of, names_of, type_in, written_location, is_declared, names_variable, names_instance, arguments_behind}
 use Rattle.il_declarations.specs.TextFaults.{has_no_room, is_no_place, is_overlapping, is_bad_start}
 
 -- ---- the faults of declarations
@@ -36,7 +35,7 @@ abbrev pub place_faults : (dialect : Dialect) → List DeclaredName → Option D
 place_faults dialect before type t o = when (is_no_place type o) kinds.BadLocation t.left ++ when (is_overlapping dialect before o) kinds.Overlap t.left
 
 abbrev pub location_faults : (dialect : Dialect) → List DeclaredName → Option DeclaredType → NamesText → List FaultAt
-location_faults dialect before type (Located at) = place_faults dialect before type at (location_of at.text)
+location_faults dialect before type (Located at) = place_faults dialect before type at (location_in dialect at.text)
 location_faults dialect before type (More ts) = []
 
 abbrev pub start_faults : (dialect : Dialect) → Option Loc → Option Token → Option DeclaredType → List FaultAt
@@ -44,21 +43,21 @@ start_faults dialect loc None type = []
 start_faults dialect loc (Some t) type = when (is_bad_start dialect loc t type) kinds.BadInitial t.left
 
 -- the faults of a declaration, with these names before it
-abbrev pub declaration_faults : (dialect : Dialect) → List DeclaredName → DeclarationText → List FaultAt
+abbrev pub declaration_faults : (dialect : Dialect) → List DeclaredName → BlockDeclaration → List FaultAt
 declaration_faults dialect before d =
     beside (name_faults dialect) before (names_in d)
-    ++ (location_faults dialect before (type_in dialect d) d.names
-    ++ (when (is_none (type_in dialect d)) kinds.UnknownType d.ty.left
-    ++ start_faults dialect (location_in d.names) d.initial (type_in dialect d)))
+    ++ (location_faults dialect before (type_in dialect d.text) d.text.names
+    ++ (when (is_none (type_in dialect d.text)) kinds.UnknownType d.text.ty.left
+    ++ start_faults dialect (written_location dialect d.text.names) d.text.initial (type_in dialect d.text)))
 
-abbrev pub faults_of_declarations : (dialect : Dialect) → List DeclarationText → List FaultAt
+abbrev pub faults_of_declarations : (dialect : Dialect) → List BlockDeclaration → List FaultAt
 faults_of_declarations dialect ds = beside (λ before d. declaration_faults dialect (flat_map names_in before) d) [] ds
 
 -- ---- the faults of instructions
 
 abbrev pub operand_faults : (dialect : Dialect) → List DeclaredName → OperandText → List FaultAt
 operand_faults dialect names (Constant t) = when (is_none (literal_in dialect t.text)) kinds.UnknownName t.left
-operand_faults dialect names (Direct t) = when (is_none (location_of t.text)) kinds.BadLocation t.left
+operand_faults dialect names (Direct t) = when (is_none (location_in dialect t.text)) kinds.BadLocation t.left
 operand_faults dialect names (Named t) = when (not (names_variable dialect names (capitals t.text))) kinds.UnknownName t.left
 operand_faults dialect names (Field t f) = when (not (names_instance dialect names (capitals t.text))) kinds.UnknownName t.left
 

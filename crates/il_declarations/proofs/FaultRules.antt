@@ -6,15 +6,15 @@ use Rattle.std.proofs.lemmas.List.{append-nil}
 use Rattle.il_model.specs.declared.dialect.Dialect.{Dialect}
 use Rattle.il_model.specs.declared.program.Loc.{Loc}
 use Rattle.il_model.specs.Words.{is_reserved}
-use Rattle.il_model.specs.Locations.{location_of}
+use Rattle.il_model.specs.Dialects.{location_in}
 use Rattle.il_reader.specs.Tokens.{Token}
-use Rattle.il_reader.specs.Grammar.{OperandText, Constant, Direct, Named, Field, BehindText, Nothing, Given, Target, Opened, Called, ArgumentText, arguments_of, OperationText, LineText, Labelled, Plain, NamesText, Located, More, DeclarationText, ProgramText}
+use Rattle.il_reader.specs.Grammar.{OperandText, Constant, Direct, Named, Field, BehindText, Nothing, Given, Target, Opened, Called, ArgumentText, arguments_of, OperationText, LineText, Labelled, Plain, NamesText, Located, More, ProgramText}
 use Rattle.il_declarations.specs.declared.variables.DeclaredType.{DeclaredType}
 use Rattle.il_declarations.specs.declared.fault.DeclKind.{DeclKind}
 use Rattle.il_declarations.specs.declared.fault.DeclKind.TheVariants as kinds
 use Rattle.il_declarations.specs.declared.fault.FaultAt.{FaultAt}
 use Rattle.il_declarations.specs.Resolution.{capitals}
-use Rattle.il_declarations.specs.Declaring.{DeclaredName, names_in, declarations_of, names_of, type_in, location_in, is_declared, arguments_behind}
+use Rattle.il_declarations.specs.Declaring.{DeclaredName, BlockDeclaration, names_in, declarations_of, names_of, type_in, written_location, is_declared, arguments_behind}
 use Rattle.il_declarations.specs.TextFaults.{Somewhere, has_no_room, is_no_place, is_overlapping, is_bad_start, Asked, AsVariable, AsInstance, AsLocation, AsLiteral, asked_token, asked_kind, is_missing, asked_by, asked_behind, asked_of, asked_in, begins_at, HasFaultOf, HasFault}
 use Rattle.il_declarations.proofs.Agreeing.{each_by_itself, beside_append}
 use Rattle.il_declarations.proofs.DeclarationFaults.{before_of, before_push}
@@ -93,10 +93,10 @@ fault kind left = record { kind = kind; left = left }
 
 -- ---- names
 
-abbrev names_part : (dialect : Dialect) → List DeclarationText → DeclarationText → List FaultAt
+abbrev names_part : (dialect : Dialect) → List BlockDeclaration → BlockDeclaration → List FaultAt
 names_part dialect before d = beside (name_faults dialect) (before_of before) (names_in d)
 
-names_flat : (dialect : Dialect) → (before ds : List DeclarationText) → beside (names_part dialect) before ds ≡ beside (name_faults dialect) (before_of before) (before_of ds)
+names_flat : (dialect : Dialect) → (before ds : List BlockDeclaration) → beside (names_part dialect) before ds ≡ beside (name_faults dialect) (before_of before) (before_of ds)
 unfolding beside
 names_flat dialect before [] = refl
 names_flat dialect before (d ∷ ds) =
@@ -128,51 +128,51 @@ name_had dialect p f s = first (parted f (when doubled kinds.Duplicate left) (wh
 
 -- ---- declarations
 
-abbrev type_part : (dialect : Dialect) → DeclarationText → List FaultAt
-type_part dialect d = when (is_none (type_in dialect d)) kinds.UnknownType d.ty.left
+abbrev type_part : (dialect : Dialect) → BlockDeclaration → List FaultAt
+type_part dialect d = when (is_none (type_in dialect d.text)) kinds.UnknownType d.text.ty.left
 
-abbrev start_part : (dialect : Dialect) → DeclarationText → List FaultAt
-start_part dialect d = start_faults dialect (location_in d.names) d.initial (type_in dialect d)
+abbrev start_part : (dialect : Dialect) → BlockDeclaration → List FaultAt
+start_part dialect d = start_faults dialect (written_location dialect d.text.names) d.text.initial (type_in dialect d.text)
 
 -- what was found in a declaration
-record InDeclaration (p : ProgramText) (before : List DeclarationText) (d : DeclarationText) : Type 0 where
-  behind : List DeclarationText
+record InDeclaration (p : ProgramText) (before : List BlockDeclaration) (d : BlockDeclaration) : Type 0 where
+  behind : List BlockDeclaration
   is : declarations_of p ≡ before ++ d ∷ behind
 
-place_had : (dialect : Dialect) → (p : ProgramText) (f : FaultAt) (before : List DeclarationText) (d : DeclarationText) → InDeclaration p before d → Among f (location_faults dialect (before_of before) (type_in dialect d) d.names) → HasFault dialect p f
-place_had dialect p f before d i a = by_names d.names refl a
+place_had : (dialect : Dialect) → (p : ProgramText) (f : FaultAt) (before : List BlockDeclaration) (d : BlockDeclaration) → InDeclaration p before d → Among f (location_faults dialect (before_of before) (type_in dialect d.text) d.text.names) → HasFault dialect p f
+place_had dialect p f before d i a = by_names d.text.names refl a
   where
-    by_names : (x : NamesText) → d.names ≡ x → Among f (location_faults dialect (before_of before) (type_in dialect d) x) → HasFault dialect p f
+    by_names : (x : NamesText) → d.text.names ≡ x → Among f (location_faults dialect (before_of before) (type_in dialect d.text) x) → HasFault dialect p f
     by_names (More ts) e h = absurd h
-    by_names (Located t) e h = chosen (parted f (when (is_no_place (type_in dialect d) (location_of t.text)) kinds.BadLocation t.left) (when (is_overlapping dialect (before_of before) (location_of t.text)) kinds.Overlap t.left) h)
+    by_names (Located t) e h = chosen (parted f (when (is_no_place (type_in dialect d.text) (location_in dialect t.text)) kinds.BadLocation t.left) (when (is_overlapping dialect (before_of before) (location_in dialect t.text)) kinds.Overlap t.left) h)
       where
-        chosen : Among f (when (is_no_place (type_in dialect d) (location_of t.text)) kinds.BadLocation t.left) ⊎ Among f (when (is_overlapping dialect (before_of before) (location_of t.text)) kinds.Overlap t.left) → HasFault dialect p f
+        chosen : Among f (when (is_no_place (type_in dialect d.text) (location_in dialect t.text)) kinds.BadLocation t.left) ⊎ Among f (when (is_overlapping dialect (before_of before) (location_in dialect t.text)) kinds.Overlap t.left) → HasFault dialect p f
         chosen (inl b) =
-            let w = was (is_no_place (type_in dialect d) (location_of t.text)) kinds.BadLocation t.left f b in
+            let w = was (is_no_place (type_in dialect d.text) (location_in dialect t.text)) kinds.BadLocation t.left f b in
             told dialect p kinds.BadLocation t.left f w.is (inl (record { before = before; item = d; behind = i.behind; is = i.is; holds = (t, e, refl, w.test) }))
         chosen (inr b) =
-            let w = was (is_overlapping dialect (before_of before) (location_of t.text)) kinds.Overlap t.left f b in
+            let w = was (is_overlapping dialect (before_of before) (location_in dialect t.text)) kinds.Overlap t.left f b in
             told dialect p kinds.Overlap t.left f w.is (record { before = before; item = d; behind = i.behind; is = i.is; holds = (t, e, refl, w.test) })
 
-type_had : (dialect : Dialect) → (p : ProgramText) (f : FaultAt) (before : List DeclarationText) (d : DeclarationText) → InDeclaration p before d → Among f (type_part dialect d) → HasFault dialect p f
+type_had : (dialect : Dialect) → (p : ProgramText) (f : FaultAt) (before : List BlockDeclaration) (d : BlockDeclaration) → InDeclaration p before d → Among f (type_part dialect d) → HasFault dialect p f
 type_had dialect p f before d i a =
-    let w = was (is_none (type_in dialect d)) kinds.UnknownType d.ty.left f a in
-    told dialect p kinds.UnknownType d.ty.left f w.is (record { before = before; item = d; behind = i.behind; is = i.is; holds = (refl, w.test) })
+    let w = was (is_none (type_in dialect d.text)) kinds.UnknownType d.text.ty.left f a in
+    told dialect p kinds.UnknownType d.text.ty.left f w.is (record { before = before; item = d; behind = i.behind; is = i.is; holds = (refl, w.test) })
 
-start_had : (dialect : Dialect) → (p : ProgramText) (f : FaultAt) (before : List DeclarationText) (d : DeclarationText) → InDeclaration p before d → Among f (start_part dialect d) → HasFault dialect p f
-start_had dialect p f before d i a = by_initial d.initial refl a
+start_had : (dialect : Dialect) → (p : ProgramText) (f : FaultAt) (before : List BlockDeclaration) (d : BlockDeclaration) → InDeclaration p before d → Among f (start_part dialect d) → HasFault dialect p f
+start_had dialect p f before d i a = by_initial d.text.initial refl a
   where
-    by_initial : (o : Option Token) → d.initial ≡ o → Among f (start_faults dialect (location_in d.names) o (type_in dialect d)) → HasFault dialect p f
+    by_initial : (o : Option Token) → d.text.initial ≡ o → Among f (start_faults dialect (written_location dialect d.text.names) o (type_in dialect d.text)) → HasFault dialect p f
     by_initial None e h = absurd h
     by_initial (Some t) e h =
-        let w = was (is_bad_start dialect (location_in d.names) t (type_in dialect d)) kinds.BadInitial t.left f h in
+        let w = was (is_bad_start dialect (written_location dialect d.text.names) t (type_in dialect d.text)) kinds.BadInitial t.left f h in
         told dialect p kinds.BadInitial t.left f w.is (record { before = before; item = d; behind = i.behind; is = i.is; holds = (t, e, refl, w.test) })
 
-abbrev of_declaration : (dialect : Dialect) → List DeclarationText → DeclarationText → List FaultAt
+abbrev of_declaration : (dialect : Dialect) → List BlockDeclaration → BlockDeclaration → List FaultAt
 of_declaration dialect before d = declaration_faults dialect (before_of before) d
 
 declaration_had : (dialect : Dialect) → (p : ProgramText) (f : FaultAt) → Somewhere (λ b d. Among f (of_declaration dialect b d)) (declarations_of p) → HasFault dialect p f
-declaration_had dialect p f s = first (parted f (names_part dialect s.before s.item) (location_faults dialect (before_of s.before) (type_in dialect s.item) s.item.names ++ (type_part dialect s.item ++ start_part dialect s.item)) s.holds)
+declaration_had dialect p f s = first (parted f (names_part dialect s.before s.item) (location_faults dialect (before_of s.before) (type_in dialect s.item.text) s.item.text.names ++ (type_part dialect s.item ++ start_part dialect s.item)) s.holds)
   where
     here : InDeclaration p s.before s.item
     here = record { behind = s.behind; is = s.is }
@@ -181,15 +181,15 @@ declaration_had dialect p f s = first (parted f (names_part dialect s.before s.i
     third (inl a) = type_had dialect p f s.before s.item here a
     third (inr a) = start_had dialect p f s.before s.item here a
 
-    second : Among f (location_faults dialect (before_of s.before) (type_in dialect s.item) s.item.names) ⊎ Among f (type_part dialect s.item ++ start_part dialect s.item) → HasFault dialect p f
+    second : Among f (location_faults dialect (before_of s.before) (type_in dialect s.item.text) s.item.text.names) ⊎ Among f (type_part dialect s.item ++ start_part dialect s.item) → HasFault dialect p f
     second (inl a) = place_had dialect p f s.before s.item here a
     second (inr a) = third (parted f (type_part dialect s.item) (start_part dialect s.item) a)
 
-    first : Among f (names_part dialect s.before s.item) ⊎ Among f (location_faults dialect (before_of s.before) (type_in dialect s.item) s.item.names ++ (type_part dialect s.item ++ start_part dialect s.item)) → HasFault dialect p f
+    first : Among f (names_part dialect s.before s.item) ⊎ Among f (location_faults dialect (before_of s.before) (type_in dialect s.item.text) s.item.text.names ++ (type_part dialect s.item ++ start_part dialect s.item)) → HasFault dialect p f
     first (inl a) =
         name_had dialect p f (in_beside (name_faults dialect) f [] (names_of p)
         (subst (λ (fs : List FaultAt). Among f fs) (names_flat dialect [] (declarations_of p)) (beside_in (names_part dialect) f (declarations_of p) (record { before = s.before; item = s.item; behind = s.behind; is = s.is; holds = a }))))
-    first (inr a) = second (parted f (location_faults dialect (before_of s.before) (type_in dialect s.item) s.item.names) (type_part dialect s.item ++ start_part dialect s.item) a)
+    first (inr a) = second (parted f (location_faults dialect (before_of s.before) (type_in dialect s.item.text) s.item.text.names) (type_part dialect s.item ++ start_part dialect s.item) a)
 
 -- ---- lines
 
@@ -307,32 +307,32 @@ name_listed dialect p kind left test inside s =
 
 place_listed : (dialect : Dialect) → (p : ProgramText) (kind : DeclKind) (left : ℕ) (test : List DeclaredName → Option DeclaredType → Option Loc → Bool)
     → ((b : List DeclaredName) (type : Option DeclaredType) (t : Token) (o : Option Loc) → test b type o ≡ true → Among (fault kind t.left) (place_faults dialect b type t o))
-    → Somewhere (λ b d. (t : Token) × (d.names ≡ Located t) × (left ≡ t.left) × (test (before_of b) (type_in dialect d) (location_of t.text) ≡ true)) (declarations_of p) → Among (fault kind left) (faults_of dialect p)
+    → Somewhere (λ b d. (t : Token) × (d.text.names ≡ Located t) × (left ≡ t.left) × (test (before_of b) (type_in dialect d.text) (location_in dialect t.text) ≡ true)) (declarations_of p) → Among (fault kind left) (faults_of dialect p)
 place_listed dialect p kind left test inside s =
     let b = s.before in
     let d = s.item in
     let t = s.holds.0 in
-    let at = subst (λ (n : ℕ). Among (fault kind n) (place_faults dialect (before_of b) (type_in dialect d) t (location_of t.text))) (sym s.holds.2) (inside (before_of b) (type_in dialect d) t (location_of t.text) s.holds.3) in
-    let named = subst (λ (x : NamesText). Among (fault kind left) (location_faults dialect (before_of b) (type_in dialect d) x)) (sym s.holds.1) at in
-    in_declaration dialect p (fault kind left) (record { before = b; item = d; behind = s.behind; is = s.is; holds = right_in (fault kind left) (names_part dialect b d) _ (left_in (fault kind left) (location_faults dialect (before_of b) (type_in dialect d) d.names) _ named) })
+    let at = subst (λ (n : ℕ). Among (fault kind n) (place_faults dialect (before_of b) (type_in dialect d.text) t (location_in dialect t.text))) (sym s.holds.2) (inside (before_of b) (type_in dialect d.text) t (location_in dialect t.text) s.holds.3) in
+    let named = subst (λ (x : NamesText). Among (fault kind left) (location_faults dialect (before_of b) (type_in dialect d.text) x)) (sym s.holds.1) at in
+    in_declaration dialect p (fault kind left) (record { before = b; item = d; behind = s.behind; is = s.is; holds = right_in (fault kind left) (names_part dialect b d) _ (left_in (fault kind left) (location_faults dialect (before_of b) (type_in dialect d.text) d.text.names) _ named) })
 
-type_listed : (dialect : Dialect) → (p : ProgramText) (left : ℕ) → Somewhere (λ b d. (left ≡ d.ty.left) × (is_none (type_in dialect d) ≡ true)) (declarations_of p) → Among (fault kinds.UnknownType left) (faults_of dialect p)
+type_listed : (dialect : Dialect) → (p : ProgramText) (left : ℕ) → Somewhere (λ b d. (left ≡ d.text.ty.left) × (is_none (type_in dialect d.text) ≡ true)) (declarations_of p) → Among (fault kinds.UnknownType left) (faults_of dialect p)
 type_listed dialect p left s =
     let f = fault kinds.UnknownType left in
     let b = s.before in
     let d = s.item in
-    let at = subst (λ (n : ℕ). Among (fault kinds.UnknownType n) (type_part dialect d)) (sym s.holds.0) (is_when (is_none (type_in dialect d)) kinds.UnknownType d.ty.left s.holds.1) in
-    in_declaration dialect p f (record { before = b; item = d; behind = s.behind; is = s.is; holds = right_in f (names_part dialect b d) _ (right_in f (location_faults dialect (before_of b) (type_in dialect d) d.names) _ (left_in f (type_part dialect d) (start_part dialect d) at)) })
+    let at = subst (λ (n : ℕ). Among (fault kinds.UnknownType n) (type_part dialect d)) (sym s.holds.0) (is_when (is_none (type_in dialect d.text)) kinds.UnknownType d.text.ty.left s.holds.1) in
+    in_declaration dialect p f (record { before = b; item = d; behind = s.behind; is = s.is; holds = right_in f (names_part dialect b d) _ (right_in f (location_faults dialect (before_of b) (type_in dialect d.text) d.text.names) _ (left_in f (type_part dialect d) (start_part dialect d) at)) })
 
-start_listed : (dialect : Dialect) → (p : ProgramText) (left : ℕ) → Somewhere (λ b d. (t : Token) × (d.initial ≡ Some t) × (left ≡ t.left) × (is_bad_start dialect (location_in d.names) t (type_in dialect d) ≡ true)) (declarations_of p) → Among (fault kinds.BadInitial left) (faults_of dialect p)
+start_listed : (dialect : Dialect) → (p : ProgramText) (left : ℕ) → Somewhere (λ b d. (t : Token) × (d.text.initial ≡ Some t) × (left ≡ t.left) × (is_bad_start dialect (written_location dialect d.text.names) t (type_in dialect d.text) ≡ true)) (declarations_of p) → Among (fault kinds.BadInitial left) (faults_of dialect p)
 start_listed dialect p left s =
     let f = fault kinds.BadInitial left in
     let b = s.before in
     let d = s.item in
     let t = s.holds.0 in
-    let at = subst (λ (n : ℕ). Among (fault kinds.BadInitial n) (start_faults dialect (location_in d.names) (Some t) (type_in dialect d))) (sym s.holds.2) (is_when (is_bad_start dialect (location_in d.names) t (type_in dialect d)) kinds.BadInitial t.left s.holds.3) in
-    let written = subst (λ (o : Option Token). Among f (start_faults dialect (location_in d.names) o (type_in dialect d))) (sym s.holds.1) at in
-    in_declaration dialect p f (record { before = b; item = d; behind = s.behind; is = s.is; holds = right_in f (names_part dialect b d) _ (right_in f (location_faults dialect (before_of b) (type_in dialect d) d.names) _ (right_in f (type_part dialect d) (start_part dialect d) written)) })
+    let at = subst (λ (n : ℕ). Among (fault kinds.BadInitial n) (start_faults dialect (written_location dialect d.text.names) (Some t) (type_in dialect d.text))) (sym s.holds.2) (is_when (is_bad_start dialect (written_location dialect d.text.names) t (type_in dialect d.text)) kinds.BadInitial t.left s.holds.3) in
+    let written = subst (λ (o : Option Token). Among f (start_faults dialect (written_location dialect d.text.names) o (type_in dialect d.text))) (sym s.holds.1) at in
+    in_declaration dialect p f (record { before = b; item = d; behind = s.behind; is = s.is; holds = right_in f (names_part dialect b d) _ (right_in f (location_faults dialect (before_of b) (type_in dialect d.text) d.text.names) _ (right_in f (type_part dialect d) (start_part dialect d) written)) })
 
 missing_in : (dialect : Dialect) → (names : List DeclaredName) (f : FaultAt) (before : List LineText) (l : LineText) → Among f (flat_map (asked_faults dialect names) (asked_in l)) → Among f (line_faults dialect names before l)
 missing_in dialect names f before (Plain o) a = right_in f (when (nat_le 4096 (length before)) kinds.TooMany o.operator.left) (operation_faults dialect names (Some o)) (subst (λ (fs : List FaultAt). Among f fs) (sym (operation_asked dialect names (Some o))) a)

@@ -1,8 +1,8 @@
 -- What a text declares has lawful forms: names, locations, initial values, operators with their letters, operands and arguments.
-use Rattle.std.proofs.Common.{◌≡◌, ℕ, suc, ◌<◌, ◌≤◌, Bool, true, false, cond, leb, ltb, List, [], ◌∷◌, ◌++◌, length, Option, Some, None, Result, Ok, Err, refl, sym, ap, subst, ◌∙◌, arith, ◌&&◌, ◌||◌, not, append_assoc}
+use Rattle.std.proofs.Common.{◌≡◌, ℕ, suc, ◌<◌, ◌≤◌, Bool, true, false, cond, leb, ltb, List, [], ◌∷◌, ◌++◌, length, Option, Some, None, Result, Ok, Err, refl, sym, ap, subst, ◌∙◌, arith, ◌&&◌, ◌||◌, not, append_assoc, map}
 use Rattle.std.specs.Prelude.{ℤ, pos, is_some}
-use Rattle.std.specs.List.{AllByRecursion, list_all, position}
-use Rattle.std.specs.Option.{option_map}
+use Rattle.std.specs.List.{AllByRecursion, list_all, list_any, position}
+use Rattle.std.specs.Option.{option_map, option_and_then}
 use Rattle.std.specs.Cmp.Lexicographic.{nat_list_eq_equiv}
 use Rattle.std.proofs.lemmas.List.{length-append, append-nil}
 use Rattle.std.proofs.lemmas.Bool.{lt-ltb, le-ltb, leb-false}
@@ -10,7 +10,7 @@ use Rattle.il_model.specs.declared.dialect.Dialect.{Dialect}
 use Rattle.il_model.specs.declared.dialect.Dialect.TheVariants as dialects
 use Rattle.il_model.specs.declared.function.Function.{Function}
 use Rattle.il_model.specs.Functions.{function_named}
-use Rattle.il_model.specs.Dialects.{applied, or_function, or_extended, operator_in, literal_in}
+use Rattle.il_model.specs.Dialects.{applied, or_function, or_extended, operator_in, literal_in, location_in}
 use Rattle.il_model.specs.Program.{program_of, Program, Declarations}
 use Rattle.il_model.specs.declared.value.Ty.{Ty}
 use Rattle.il_model.specs.declared.value.Ty.TheVariants as types
@@ -38,10 +38,12 @@ use Rattle.il_model.specs.Words.{same_name, is_reserved, is_lawful_name, spells,
 use Rattle.il_model.specs.Resolved.{instance_in}
 use Rattle.il_model.specs.CodedOperands.{loc_code, IsCell}
 use Rattle.il_model.specs.Image.{type_code}
-use Rattle.il_model.specs.Locations.{area_of}
-use Rattle.il_model.specs.Typing.{is_writable_area}
+use Rattle.il_model.specs.declared.program.Area.{Area}
+use Rattle.il_model.specs.Locations.{area_of, seen_as}
+use Rattle.il_model.specs.Typing.{loc_type, is_writable_area}
 use Rattle.il_model.specs.Codes as codes_of
-use Rattle.il_model.specs.Codes.{is_new_name, is_taken, length_of, may_start_with, initial_of, usage_of, has_form, allowed_by, formed_by, is_empty}
+use Rattle.il_model.specs.Operators.{is_zero}
+use Rattle.il_model.specs.Codes.{if_passes, is_new_name, is_taken, is_overlapped, is_type, length_of, may_start_with, initial_of, usage_of, has_form, allowed_by, formed_by, is_empty}
 use Rattle.il_model.specs.Fits.{IsVariable, IsInstance, AreItems}
 use Rattle.il_model.specs.Lawful.{IsLabel}
 use Rattle.il_model.specs.Declarable.{IsOperand, as_value, IsArgument, IsInstruction, IsDeclared}
@@ -54,7 +56,7 @@ use Rattle.il_reader.specs.declared.operations.Form.TheVariants as forms
 use Rattle.il_reader.specs.declared.lexeme.Sign.TheVariants as signs
 use Rattle.il_reader.specs.Tokens.{Token}
 use Rattle.il_reader.specs.Front.{is_sign}
-use Rattle.il_reader.specs.Grammar.{OperandText, Constant, Direct, Named, Field, ArgumentText, arguments_of, BehindText, Nothing, Given, Target, Opened, Called, OperationText, LineText, Labelled, Plain, NamesText, Located, More, DeclarationText, ProgramText, form_of, closing, operator_of, operator_from}
+use Rattle.il_reader.specs.Grammar.{BlockText, is_retained, OperandText, Constant, Direct, Named, Field, ArgumentText, arguments_of, BehindText, Nothing, Given, Target, Opened, Called, OperationText, LineText, Labelled, Plain, NamesText, Located, More, DeclarationText, ProgramText, form_of, closing, operator_of, operator_from}
 use Rattle.il_reader.specs.Spelling.{accepts, accepting, operator_before}
 use Rattle.il_reader.specs.Words.{IsWordText, IsWordName, AreWordNames, IsWordDeclaration, IsOperation, IsOptionalOperation, IsOperator, AreWords}
 use Rattle.il_declarations.specs.declared.fault.DeclKind.TheVariants as kinds
@@ -62,14 +64,14 @@ use Rattle.il_declarations.specs.declared.fault.FaultAt.{FaultAt}
 use Rattle.il_declarations.specs.declared.variables.Plan.{Plan}
 use Rattle.il_declarations.specs.declared.variables.DeclaredType.{DeclaredType}
 use Rattle.il_declarations.specs.declared.variables.DeclaredType.TheVariants.{Elementary, Block}
-use Rattle.il_model.specs.Locations as written
-use Rattle.il_declarations.specs.Resolution.{capitals, declared_type, suits, variable, same_type, fitting, is_input, written_value, opens, with_opening}
+use Rattle.il_declarations.specs.Resolution.{capitals, declared_type, suits, place_as, variable, same_type, fitting, is_input, written_value, opens, with_opening}
+use Rattle.il_declarations.specs.Declaring.{BlockDeclaration, in_block, declarations_in}
 use Rattle.il_declarations.specs.Walk.{◌>>=◌, each, refused, nothing, has_name, has_instance, is_full, new_name, free_loc, free_location, found_type, known_type, fitted, elementary_value, first_value, planned_value, with_declared, declare_name, declare_located, declare_listed, declare_by, declare, declare_block, direct, constant, argument_of, pushed_argument, behind_arguments, behind_of, instruction_of, room, label_of, instruct_labelled, instruct_plain, instruct}
 use Rattle.il_declarations.specs.Resolution as resolution
 use Rattle.il_declarations.specs.Walk as walk
 use Rattle.il_declarations.proofs.Capitals.{capitals_lawful, capitals_length}
 use Rattle.il_model.proofs.CodedOperands.{loc_small, located_again}
-use Rattle.il_model.proofs.WrittenLocations.{location_cell}
+use Rattle.il_model.proofs.WrittenLocations.{location_named, cell_seen, parts_seen, area_seen}
 
 abbrev done : {A : Type 0} → A → Result A FaultAt
 done x = Ok x
@@ -141,19 +143,24 @@ type_again types.Real = refl
 abbrev IsStart : Ty → Option Loc → Value → Type 0
 IsStart type loc v = initial_of type loc (number_of v) ≡ Some v
 
+-- a location of that type
+abbrev IsOf : DeclaredType → Loc → Type 0
+IsOf (Elementary type) loc = is_type type (loc_type loc) ≡ true
+IsOf (Block kind) loc = ⊥
+
 record IsFreePlace (type : DeclaredType) (known : Declarations) (loc : Loc) : Type 0 where
   place : IsCell loc
-  suits : suits (Some type) loc ≡ true
-  free : is_taken known.variables (loc_code loc) ≡ false
+  suits : IsOf type loc
+  free : is_overlapped known.variables loc ≡ false
 
 long_enough : (t : Token) → IsWordText t.text → length_of (length (capitals t.text)) ≡ Some (length (capitals t.text))
 long_enough t word = let l = capitals_length t.text word in rw (lt-ltb 0 (length (capitals t.text)) l.0, lt-ltb (length (capitals t.text)) 33 l.1) refl
 
 -- a lawful name at a place that none has, with a first value
-variable_fits : (known : Declarations) (t : Token) (name : List ℕ) (type : Ty) (o : Option Loc) (v : Value) → IsWordText t.text → IsNew (Some (Elementary type)) known t name
-    → ((loc : Loc) → o ≡ Some loc → IsFreePlace (Elementary type) known loc) → IsStart type o v → IsVariable known.variables (variable name type o v)
-variable_fits known t name type o v word new place start =
-    subst (λ (n : List ℕ). IsVariable known.variables (variable n type o v)) new.is (by_place o place start)
+variable_fits : (r : Bool) (known : Declarations) (t : Token) (name : List ℕ) (type : Ty) (o : Option Loc) (v : Value) → IsWordText t.text → IsNew (Some (Elementary type)) known t name
+    → ((loc : Loc) → o ≡ Some loc → IsFreePlace (Elementary type) known loc) → IsStart type o v → IsVariable known.variables (variable r name type o v)
+variable_fits r known t name type o v word new place start =
+    subst (λ (n : List ℕ). IsVariable known.variables (variable r n type o v)) new.is (by_place o place start)
   where
     lawful : is_lawful_name (capitals t.text) ≡ true
     lawful = capitals_lawful t.text word new.free
@@ -161,20 +168,20 @@ variable_fits known t name type o v word new place start =
     fresh : is_new_name known.variables (capitals t.text) ≡ true
     fresh = rw (lawful, new.no_variable) refl
 
-    by_place : (o : Option Loc) → ((loc : Loc) → o ≡ Some loc → IsFreePlace (Elementary type) known loc) → IsStart type o v → IsVariable known.variables (variable (capitals t.text) type o v)
+    by_place : (o : Option Loc) → ((loc : Loc) → o ≡ Some loc → IsFreePlace (Elementary type) known loc) → IsStart type o v → IsVariable known.variables (variable r (capitals t.text) type o v)
     by_place None place start = record { length = long_enough t word; name = fresh; type = type_again type; location = refl; location_small = omega arith; initial = start }
     by_place (Some loc) place start =
         let p = place loc refl in
         record { length = long_enough t word; name = fresh; type = type_again type; location = located_again known.variables type loc p.place p.suits p.free; location_small = omega (arith, loc_small loc p.place); initial = start }
 
-abbrev instance : List ℕ → BlockKind → Instance
-instance name kind = record { name = name; kind = kind }
+abbrev instance : Bool → List ℕ → BlockKind → Instance
+instance r name kind = record { name = name; kind = kind; retained = r }
 
 -- a lawful name that no variable and no instance has
-instance_fits : (type : Option DeclaredType) (known : Declarations) (t : Token) (name : List ℕ) (kind : BlockKind) → IsWordText t.text → IsNew type known t name → IsInstance known.variables known.instances (instance name kind)
-instance_fits type known t name kind word new =
+instance_fits : (r : Bool) (type : Option DeclaredType) (known : Declarations) (t : Token) (name : List ℕ) (kind : BlockKind) → IsWordText t.text → IsNew type known t name → IsInstance known.variables known.instances (instance r name kind)
+instance_fits r type known t name kind word new =
     let lawful = capitals_lawful t.text word new.free in
-    subst (λ (n : List ℕ). IsInstance known.variables known.instances (instance n kind)) new.is (record { length = long_enough t word; name = rw (lawful, new.no_variable, new.no_instance) refl })
+    subst (λ (n : List ℕ). IsInstance known.variables known.instances (instance r n kind)) new.is (record { length = long_enough t word; name = rw (lawful, new.no_variable, new.no_instance) refl })
 
 -- what is found nowhere isn't the first, nor behind it
 not_found : {X : Type 0} (p : X → Bool) (x : X) (xs : List X) → is_some (position p (x ∷ xs)) ≡ false → (p x ≡ false) × (is_some (position p xs) ≡ false)
@@ -286,6 +293,13 @@ first_start : (dialect : Dialect) → (type : DeclaredType) (loc : Option Loc) (
 first_start dialect (Elementary type) loc o v e = elementary_start dialect type loc o v e
 first_start dialect (Block kind) loc o v e = tt
 
+start_seen : (type : Ty) (loc : Loc) (v : Value) → IsStart type (Some loc) v → IsStart type (Some (seen_as type loc)) v
+start_seen type loc v e = ap (λ (a : Area). option_and_then (if_passes (λ (x : Value). is_writable_area a || is_zero (number_of x))) (typed_value type (number_of v))) (area_seen type loc) ∙ e
+
+first_start_seen : (dialect : Dialect) (type : DeclaredType) (loc : Loc) (o : Option Token) (v : Value) → first_value dialect type (Some loc) o ≡ Ok v → Starts type (Some (place_as type loc)) v
+first_start_seen dialect (Elementary type) loc o v e = start_seen type loc v (elementary_start dialect type (Some loc) o v e)
+first_start_seen dialect (Block kind) loc o v e = tt
+
 -- the value that was planned is the first value
 planned_is : (dialect : Dialect) → (type : Ty) (o : Option Token) (v : Value) → elementary_value dialect type None o ≡ Ok v → planned_value dialect (Some (Elementary type)) o ≡ v
 planned_is dialect type None v e = ok_is (zero_of type) v e
@@ -297,35 +311,35 @@ planned_start dialect (Block kind) o v e = tt
 
 -- ---- declarations
 
-abbrev plan : Option DeclaredType → Value → Plan
-plan type v = record { ty = type; initial = v }
+abbrev plan : Bool → Option DeclaredType → Value → Plan
+plan r type v = record { ty = type; initial = v; retained = r }
 
-declared_fine : (type : DeclaredType) (v : Value) (known : Declarations) (t : Token) (name : List ℕ) (loc : Option Loc) → Fine known → IsWordText t.text → IsNew (Some type) known t name
-    → ((l : Loc) → loc ≡ Some l → IsFreePlace type known l) → Starts type loc v → Fine (with_declared (plan (Some type) v) known name loc (Some type))
-declared_fine (Elementary type) v known t name loc fine word new place start =
+declared_fine : (r : Bool) (type : DeclaredType) (v : Value) (known : Declarations) (t : Token) (name : List ℕ) (loc : Option Loc) → Fine known → IsWordText t.text → IsNew (Some type) known t name
+    → ((l : Loc) → loc ≡ Some l → IsFreePlace type known l) → Starts type loc v → Fine (with_declared (plan r (Some type) v) known name loc (Some type))
+declared_fine r (Elementary type) v known t name loc fine word new place start =
     let more = more_variables type known new.room in
     let none : is_some (instance_in known.instances name) ≡ false = subst (λ (n : List ℕ). is_some (instance_in known.instances n) ≡ false) new.is new.no_instance in
     record {
-      variables = items_push IsVariable [] known.variables (variable name type loc v) fine.variables (variable_fits known t name type loc v word new place start);
-      variables_few = omega (arith, more, length-append known.variables (variable name type loc v ∷ []));
-      instances = instances_stay known.variables (variable name type loc v) [] known.instances none fine.instances;
+      variables = items_push IsVariable [] known.variables (variable r name type loc v) fine.variables (variable_fits r known t name type loc v word new place start);
+      variables_few = omega (arith, more, length-append known.variables (variable r name type loc v ∷ []));
+      instances = instances_stay known.variables (variable r name type loc v) [] known.instances none fine.instances;
       instances_few = fine.instances_few;
     }
-declared_fine (Block kind) v known t name loc fine word new place start =
+declared_fine r (Block kind) v known t name loc fine word new place start =
     let more = more_instances kind known new.room in
     record {
       variables = fine.variables;
       variables_few = fine.variables_few;
-      instances = items_push (IsInstance known.variables) [] known.instances (instance name kind) fine.instances (instance_fits (Some (Block kind)) known t name kind word new);
-      instances_few = omega (arith, more, length-append known.instances (instance name kind ∷ []));
+      instances = items_push (IsInstance known.variables) [] known.instances (instance r name kind) fine.instances (instance_fits r (Some (Block kind)) known t name kind word new);
+      instances_few = omega (arith, more, length-append known.instances (instance r name kind ∷ []));
     }
 
-name_keeps : (type : DeclaredType) (v : Value) (known : Declarations) (t : Token) (z : Declarations) → Starts type None v → Fine known → IsWordText t.text → declare_name (plan (Some type) v) known t ≡ Ok z → Fine z
+name_keeps : (r : Bool) (type : DeclaredType) (v : Value) (known : Declarations) (t : Token) (z : Declarations) → Starts type None v → Fine known → IsWordText t.text → declare_name (plan r (Some type) v) known t ≡ Ok z → Fine z
 unfolding declare_name
-name_keeps type v known t z start fine word e =
-    let m = bind_ok (new_name (Some type) known t) (λ name. Ok (with_declared (plan (Some type) v) known name None (Some type))) z e in
-    subst Fine (ok_is (with_declared (plan (Some type) v) known m.0 None (Some type)) z m.2)
-    (declared_fine type v known t m.0 None fine word (new_is (Some type) known t m.0 m.1) (λ loc none. absurd (no_place loc none)) start)
+name_keeps r type v known t z start fine word e =
+    let m = bind_ok (new_name (Some type) known t) (λ name. Ok (with_declared (plan r (Some type) v) known name None (Some type))) z e in
+    subst Fine (ok_is (with_declared (plan r (Some type) v) known m.0 None (Some type)) z m.2)
+    (declared_fine r type v known t m.0 None fine word (new_is (Some type) known t m.0 m.1) (λ loc none. absurd (no_place loc none)) start)
 
 type_is : (dialect : Dialect) → (t : Token) (type : DeclaredType) → known_type dialect t ≡ Ok type → declared_type dialect t.text ≡ Some type
 type_is dialect t type e = found (declared_type dialect t.text) e
@@ -334,68 +348,81 @@ type_is dialect t type e = found (declared_type dialect t.text) e
     found None h = absurd cc
     found (Some x) h = ap (λ (y : DeclaredType). Some y) (ok_is x type h)
 
-place_is : (type : DeclaredType) (known : Declarations) (t : Token) (loc : Loc) → free_location (Some type) known t ≡ Ok loc → IsFreePlace type known loc
-place_is type known t loc e = by_location (written.location_of t.text) refl e
+-- a variable of the type lies there
+seen_place : (type : DeclaredType) (known : Declarations) (loc : Loc) → IsCell loc → suits (Some type) loc ≡ true → is_overlapped known.variables loc ≡ false → IsFreePlace type known (place_as type loc)
+seen_place (Elementary type) known loc cell g k = record {
+  place = cell_seen type loc cell;
+  suits = g;
+  free = ap (λ (parts : List Loc). list_any (λ (part : Loc). is_taken known.variables (loc_code part)) parts) (parts_seen type loc) ∙ k;
+}
+seen_place (Block kind) known loc cell g k = absurd cc
+
+place_is : (dialect : Dialect) (type : DeclaredType) (known : Declarations) (t : Token) (loc : Loc) → free_location dialect (Some type) known t ≡ Ok loc → IsFreePlace type known (place_as type loc)
+place_is dialect type known t loc e = by_location (location_in dialect t.text) refl e
   where
-    by_location : (o : Option Loc) → written.location_of t.text ≡ o → free_loc (Some type) known t o ≡ Ok loc → IsFreePlace type known loc
+    by_location : (o : Option Loc) → location_in dialect t.text ≡ o → free_loc (Some type) known t o ≡ Ok loc → IsFreePlace type known (place_as type loc)
     by_location None f h = absurd cc
-    by_location (Some x) f h = chosen (suits (Some type) x) (is_taken known.variables (loc_code x)) refl refl h
+    by_location (Some x) f h = chosen (suits (Some type) x) (is_overlapped known.variables x) refl refl h
       where
-        chosen : (a b : Bool) → suits (Some type) x ≡ a → is_taken known.variables (loc_code x) ≡ b → cond a (cond b (refused kinds.Overlap t) (Ok x)) (refused kinds.BadLocation t) ≡ Ok loc → IsFreePlace type known loc
+        chosen : (a b : Bool) → suits (Some type) x ≡ a → is_overlapped known.variables x ≡ b → cond a (cond b (refused kinds.Overlap t) (Ok x)) (refused kinds.BadLocation t) ≡ Ok loc → IsFreePlace type known (place_as type loc)
         chosen false b g k h = absurd cc
         chosen true true g k h = absurd cc
-        chosen true false g k h = subst (IsFreePlace type known) (ok_is x loc h) (record { place = location_cell t.text x f; suits = g; free = k })
+        chosen true false g k h = subst (λ (l : Loc). IsFreePlace type known (place_as type l)) (ok_is x loc h) (seen_place type known x (location_named dialect t.text x f).0 g k)
 
 becomes : (z known : Declarations) → done known ≡ done z → Fine known → Fine z
 becomes z known e fine = subst Fine (ok_is known z e) fine
 
-abbrev located : Declarations → List ℕ → Loc → DeclaredType → Value → Declarations
-located known name loc type v = with_declared (plan (Some type) v) known name (Some loc) (Some type)
+abbrev located : Bool → Declarations → List ℕ → Loc → DeclaredType → Value → Declarations
+located r known name loc type v = with_declared (plan r (Some type) v) known name (Some (place_as type loc)) (Some type)
 
-located_fine : (dialect : Dialect) → (known : Declarations) (d : DeclarationText) (at : Token) (name : List ℕ) (loc : Loc) (type : DeclaredType) (v : Value) → Fine known → IsWordText d.name.text → new_name (declared_type dialect d.ty.text) known d.name ≡ Ok name
-    → free_location (declared_type dialect d.ty.text) known at ≡ Ok loc → known_type dialect d.ty ≡ Ok type → first_value dialect type (Some loc) d.initial ≡ Ok v → Fine (located known name loc type v)
+located_fine : (dialect : Dialect) → (known : Declarations) (d : BlockDeclaration) (at : Token) (name : List ℕ) (loc : Loc) (type : DeclaredType) (v : Value) → Fine known → IsWordText d.text.name.text → new_name (declared_type dialect d.text.ty.text) known d.text.name ≡ Ok name
+    → free_location dialect (declared_type dialect d.text.ty.text) known at ≡ Ok loc → known_type dialect d.text.ty ≡ Ok type → first_value dialect type (Some loc) d.text.initial ≡ Ok v → Fine (located d.retained known name loc type v)
 located_fine dialect known d at name loc type v fine word named free typed first =
-    let known-type = type_is dialect d.ty type typed in
-    let new = new_is (Some type) known d.name name (subst (λ (o : Option DeclaredType). new_name o known d.name ≡ Ok name) known-type named) in
-    let place = place_is type known at loc (subst (λ (o : Option DeclaredType). free_location o known at ≡ Ok loc) known-type free) in
-    declared_fine type v known d.name name (Some loc) fine word new (λ l is. subst (IsFreePlace type known) (same_loc loc l is) place) (first_start dialect type (Some loc) d.initial v first)
+    let known-type = type_is dialect d.text.ty type typed in
+    let new = new_is (Some type) known d.text.name name (subst (λ (o : Option DeclaredType). new_name o known d.text.name ≡ Ok name) known-type named) in
+    let place = place_is dialect type known at loc (subst (λ (o : Option DeclaredType). free_location dialect o known at ≡ Ok loc) known-type free) in
+    declared_fine d.retained type v known d.text.name name (Some (place_as type loc)) fine word new (λ l is. subst (IsFreePlace type known) (same_loc (place_as type loc) l is) place) (first_start_seen dialect type loc d.text.initial v first)
 
-located_keeps : (dialect : Dialect) → (known : Declarations) (d : DeclarationText) (at : Token) (z : Declarations) → Fine known → IsWordText d.name.text → declare_located dialect known d at ≡ Ok z → Fine z
+located_keeps : (dialect : Dialect) → (known : Declarations) (d : BlockDeclaration) (at : Token) (z : Declarations) → Fine known → IsWordText d.text.name.text → declare_located dialect known d at ≡ Ok z → Fine z
 unfolding declare_located
 located_keeps dialect known d at z fine word e =
-    let a = bind_ok (new_name (declared_type dialect d.ty.text) known d.name) (λ name. free_location (declared_type dialect d.ty.text) known at >>= λ loc. known_type dialect d.ty >>= λ type. first_value dialect type (Some loc) d.initial >>= λ v. Ok (located known name loc type v)) z e in
-    let b = bind_ok (free_location (declared_type dialect d.ty.text) known at) (λ loc. known_type dialect d.ty >>= λ type. first_value dialect type (Some loc) d.initial >>= λ v. Ok (located known a.0 loc type v)) z a.2 in
-    let c = bind_ok (known_type dialect d.ty) (λ type. first_value dialect type (Some b.0) d.initial >>= λ v. Ok (located known a.0 b.0 type v)) z b.2 in
-    let f = bind_ok (first_value dialect c.0 (Some b.0) d.initial) (λ v. Ok (located known a.0 b.0 c.0 v)) z c.2 in
-    becomes z (located known a.0 b.0 c.0 f.0) f.2 (located_fine dialect known d at a.0 b.0 c.0 f.0 fine word a.1 b.1 c.1 f.1)
+    let a = bind_ok (new_name (declared_type dialect d.text.ty.text) known d.text.name) (λ name. free_location dialect (declared_type dialect d.text.ty.text) known at >>= λ loc. known_type dialect d.text.ty >>= λ type. first_value dialect type (Some loc) d.text.initial >>= λ v. Ok (located d.retained known name loc type v)) z e in
+    let b = bind_ok (free_location dialect (declared_type dialect d.text.ty.text) known at) (λ loc. known_type dialect d.text.ty >>= λ type. first_value dialect type (Some loc) d.text.initial >>= λ v. Ok (located d.retained known a.0 loc type v)) z a.2 in
+    let c = bind_ok (known_type dialect d.text.ty) (λ type. first_value dialect type (Some b.0) d.text.initial >>= λ v. Ok (located d.retained known a.0 b.0 type v)) z b.2 in
+    let f = bind_ok (first_value dialect c.0 (Some b.0) d.text.initial) (λ v. Ok (located d.retained known a.0 b.0 c.0 v)) z c.2 in
+    becomes z (located d.retained known a.0 b.0 c.0 f.0) f.2 (located_fine dialect known d at a.0 b.0 c.0 f.0 fine word a.1 b.1 c.1 f.1)
 
-listed_keeps : (dialect : Dialect) → (known : Declarations) (d : DeclarationText) (more : List Token) (z : Declarations) → Fine known → IsWordText d.name.text → AllByRecursion IsWordName more → declare_listed dialect known d more ≡ Ok z → Fine z
+listed_keeps : (dialect : Dialect) → (known : Declarations) (d : BlockDeclaration) (more : List Token) (z : Declarations) → Fine known → IsWordText d.text.name.text → AllByRecursion IsWordName more → declare_listed dialect known d more ≡ Ok z → Fine z
 unfolding declare_listed
 listed_keeps dialect known d more z fine word words e =
-    let typed_value : Option DeclaredType → Plan = λ o. plan o (planned_value dialect o d.initial) in
-    let a = bind_ok (declare_name (typed_value (declared_type dialect d.ty.text)) known d.name) (λ first. each (declare_name (typed_value (declared_type dialect d.ty.text))) first more >>= λ named. known_type dialect d.ty >>= λ type. first_value dialect type None d.initial >>= λ v. Ok named) z e in
-    let b = bind_ok (each (declare_name (typed_value (declared_type dialect d.ty.text))) a.0 more) (λ named. known_type dialect d.ty >>= λ type. first_value dialect type None d.initial >>= λ v. Ok named) z a.2 in
-    let c = bind_ok (known_type dialect d.ty) (λ type. first_value dialect type None d.initial >>= λ v. Ok b.0) z b.2 in
-    let f = bind_ok (first_value dialect c.0 None d.initial) (λ v. Ok b.0) z c.2 in
-    let type = type_is dialect d.ty c.0 c.1 in
-    let v = planned_value dialect (Some c.0) d.initial in
-    let start : Starts c.0 None v = planned_start dialect c.0 d.initial f.0 f.1 in
-    let first : Fine a.0 = name_keeps c.0 v known d.name a.0 start fine word (subst (λ (o : Option DeclaredType). declare_name (typed_value o) known d.name ≡ Ok a.0) type a.1) in
-    let rest : Fine b.0 = each_keeps Fine IsWordName (declare_name (typed_value (Some c.0))) (λ y t w p q h. name_keeps c.0 v y t w start p q h) a.0 more b.0 first words (subst (λ (o : Option DeclaredType). each (declare_name (typed_value o)) a.0 more ≡ Ok b.0) type b.1) in
+    let typed_value : Option DeclaredType → Plan = λ o. plan d.retained o (planned_value dialect o d.text.initial) in
+    let a = bind_ok (declare_name (typed_value (declared_type dialect d.text.ty.text)) known d.text.name) (λ first. each (declare_name (typed_value (declared_type dialect d.text.ty.text))) first more >>= λ named. known_type dialect d.text.ty >>= λ type. first_value dialect type None d.text.initial >>= λ v. Ok named) z e in
+    let b = bind_ok (each (declare_name (typed_value (declared_type dialect d.text.ty.text))) a.0 more) (λ named. known_type dialect d.text.ty >>= λ type. first_value dialect type None d.text.initial >>= λ v. Ok named) z a.2 in
+    let c = bind_ok (known_type dialect d.text.ty) (λ type. first_value dialect type None d.text.initial >>= λ v. Ok b.0) z b.2 in
+    let f = bind_ok (first_value dialect c.0 None d.text.initial) (λ v. Ok b.0) z c.2 in
+    let type = type_is dialect d.text.ty c.0 c.1 in
+    let v = planned_value dialect (Some c.0) d.text.initial in
+    let start : Starts c.0 None v = planned_start dialect c.0 d.text.initial f.0 f.1 in
+    let first : Fine a.0 = name_keeps d.retained c.0 v known d.text.name a.0 start fine word (subst (λ (o : Option DeclaredType). declare_name (typed_value o) known d.text.name ≡ Ok a.0) type a.1) in
+    let rest : Fine b.0 = each_keeps Fine IsWordName (declare_name (typed_value (Some c.0))) (λ y t w p q h. name_keeps d.retained c.0 v y t w start p q h) a.0 more b.0 first words (subst (λ (o : Option DeclaredType). each (declare_name (typed_value o)) a.0 more ≡ Ok b.0) type b.1) in
     subst Fine (ok_is b.0 z f.2) rest
 
-by_names : (dialect : Dialect) → (known : Declarations) (d : DeclarationText) (x : NamesText) (z : Declarations) → Fine known → IsWordText d.name.text → AreWordNames x → declare_by dialect known d x ≡ Ok z → Fine z
+by_names : (dialect : Dialect) → (known : Declarations) (d : BlockDeclaration) (x : NamesText) (z : Declarations) → Fine known → IsWordText d.text.name.text → AreWordNames x → declare_by dialect known d x ≡ Ok z → Fine z
 by_names dialect known d (Located at) z fine word words e = located_keeps dialect known d at z fine word e
 by_names dialect known d (More more) z fine word words e = listed_keeps dialect known d more z fine word words e
 
-declare_keeps : (dialect : Dialect) → (known : Declarations) (d : DeclarationText) (z : Declarations) → Fine known → IsWordDeclaration d → declare dialect known d ≡ Ok z → Fine z
-declare_keeps dialect known d z fine words e = by_names dialect known d d.names z fine words.name words.names e
+declare_keeps : (dialect : Dialect) → (known : Declarations) (d : BlockDeclaration) (z : Declarations) → Fine known → IsWordDeclaration d.text → declare dialect known d ≡ Ok z → Fine z
+declare_keeps dialect known d z fine words e = by_names dialect known d d.text.names z fine words.name words.names e
 
-block_keeps : (dialect : Dialect) → (known : Declarations) (ds : List DeclarationText) (z : Declarations) → Fine known → AllByRecursion IsWordDeclaration ds → declare_block dialect known ds ≡ Ok z → Fine z
-block_keeps dialect known ds z fine words e = each_keeps Fine IsWordDeclaration (declare dialect) (declare_keeps dialect) known ds z fine words e
+words_in : (r : Bool) (ds : List DeclarationText) → AllByRecursion IsWordDeclaration ds → AllByRecursion (λ (d : BlockDeclaration). IsWordDeclaration d.text) (map (in_block r) ds)
+words_in r [] words = tt
+words_in r (d ∷ ds) words = (words.0, words_in r ds words.1)
 
-pub blocks_fine : (dialect : Dialect) → (bs : List (List DeclarationText)) (z : Declarations) → AllByRecursion (AllByRecursion IsWordDeclaration) bs → each (declare_block dialect) nothing bs ≡ Ok z → Fine z
-blocks_fine dialect bs z words e = each_keeps Fine (AllByRecursion IsWordDeclaration) (declare_block dialect) (block_keeps dialect) nothing bs z (record { variables = tt; variables_few = omega arith; instances = tt; instances_few = omega arith }) words e
+block_keeps : (dialect : Dialect) → (known : Declarations) (b : BlockText) (z : Declarations) → Fine known → AllByRecursion IsWordDeclaration b.declarations → declare_block dialect known b ≡ Ok z → Fine z
+block_keeps dialect known b z fine words e = each_keeps Fine (λ (d : BlockDeclaration). IsWordDeclaration d.text) (declare dialect) (declare_keeps dialect) known (declarations_in b) z fine (words_in (is_retained b) b.declarations words) e
+
+pub blocks_fine : (dialect : Dialect) → (bs : List BlockText) (z : Declarations) → AllByRecursion (λ (b : BlockText). AllByRecursion IsWordDeclaration b.declarations) bs → each (declare_block dialect) nothing bs ≡ Ok z → Fine z
+blocks_fine dialect bs z words e = each_keeps Fine (λ (b : BlockText). AllByRecursion IsWordDeclaration b.declarations) (declare_block dialect) (block_keeps dialect) nothing bs z (record { variables = tt; variables_few = omega arith; instances = tt; instances_few = omega arith }) words e
 
 -- ---- operators
 
@@ -575,12 +602,12 @@ given_is dialect ds (Constant t) x e = by_literal (literal_in dialect t.text) (l
     by_literal None r h = absurd cc
     by_literal (Some (Bare z)) r h = subst (IsGiven ds) (ok_is (operands.Bare z) x h) (record { value = refl; lawful = r })
     by_literal (Some (Typed v)) r h = subst (IsGiven ds) (ok_is (operands.Literal v) x h) (record { value = refl; lawful = r })
-given_is dialect ds (Direct t) x e = by_location (written.location_of t.text) refl e
+given_is dialect ds (Direct t) x e = by_location (location_in dialect t.text) refl e
   where
-    by_location : (o : Option Loc) → written.location_of t.text ≡ o → direct t o ≡ Ok x → IsGiven ds x
+    by_location : (o : Option Loc) → location_in dialect t.text ≡ o → direct t o ≡ Ok x → IsGiven ds x
     by_location None f h = absurd cc
     by_location (Some loc) f h =
-        let p = location_cell t.text loc f in
+        let p = location_named dialect t.text loc f in
         subst (IsGiven ds) (ok_is (operands.Direct loc) x h) (record { value = refl; lawful = p })
 given_is dialect ds (Named t) x e = chosen (has_name ds (capitals t.text)) refl e
   where
@@ -740,10 +767,10 @@ lines_fine dialect ds ls z words e = each_keeps (FineCode ds) (IsOperator dialec
 -- ---- the whole
 
 -- the parts that a text's program is made of
-pub parts_fit : (dialect : Dialect) → (p : ProgramText) (bs : List (List DeclarationText)) (ls : List LineText) (known : Declarations) (vs : List Variable) (xs : List Instance) (code : List Instr) → AreWords dialect p → bs ≡ p.blocks → ls ≡ p.lines
+pub parts_fit : (dialect : Dialect) → (p : ProgramText) (bs : List BlockText) (ls : List LineText) (known : Declarations) (vs : List Variable) (xs : List Instance) (code : List Instr) → AreWords dialect p → bs ≡ p.blocks → ls ≡ p.lines
     → vs ≡ known.variables → xs ≡ known.instances → each (declare_block dialect) nothing bs ≡ Ok known → each (instruct dialect known) [] ls ≡ Ok code → IsDeclared (record { variables = vs; instances = xs; code = code })
 parts_fit dialect p bs ls known vs xs code words b l v x e f =
-    let declared = blocks_fine dialect p.blocks known words.blocks (subst (λ (y : List (List DeclarationText)). each (declare_block dialect) nothing y ≡ Ok known) b e) in
+    let declared = blocks_fine dialect p.blocks known words.blocks (subst (λ (y : List BlockText). each (declare_block dialect) nothing y ≡ Ok known) b e) in
     let lines = lines_fine dialect known p.lines code words.lines (subst (λ (y : List LineText). each (instruct dialect known) [] y ≡ Ok code) l f) in
     subst (λ (ws : List Variable). IsDeclared (record { variables = ws; instances = xs; code = code })) (sym v)
     (subst (λ (ys : List Instance). IsDeclared (record { variables = known.variables; instances = ys; code = code })) (sym x)

@@ -4,7 +4,7 @@ use Rattle.std.specs.Prelude.{is_none, nat_le}
 use Rattle.std.specs.List.{flat_map, AllZip}
 use Rattle.std.specs.Option.{option_map}
 use Rattle.il_model.specs.declared.dialect.Dialect.{Dialect}
-use Rattle.il_model.specs.Dialects.{literal_in}
+use Rattle.il_model.specs.Dialects.{literal_in, location_in}
 use Rattle.il_model.specs.declared.literal.Literal.{Literal}
 use Rattle.il_model.specs.declared.literal.Literal.TheVariants.{Bare, Typed}
 use Rattle.il_model.specs.declared.op.Op.TheVariants as ops
@@ -15,7 +15,6 @@ use Rattle.il_model.specs.declared.program.Argument.{Argument}
 use Rattle.il_model.specs.declared.program.Instr.{Instr}
 use Rattle.il_model.specs.Program.{Program, Declarations}
 use Rattle.il_model.specs.Words.{is_reserved}
-use Rattle.il_model.specs.Locations as written
 use Rattle.il_reader.specs.Tokens.{Token}
 use Rattle.il_reader.specs.Grammar.{OperandText, Constant, Direct, Named, Field, BehindText, Nothing, Given, Target, Opened, Called, ArgumentText, arguments_of, OperationText, LineText, Labelled, Plain, ProgramText}
 use Rattle.il_declarations.specs.declared.fault.DeclKind.{DeclKind}
@@ -50,7 +49,7 @@ operand_agrees dialect names (Constant t) = by_literal (literal_in dialect t.tex
     by_literal None = ([], refl)
     by_literal (Some (Bare z)) = refl
     by_literal (Some (Typed v)) = refl
-operand_agrees dialect names (Direct t) = by_location (written.location_of t.text)
+operand_agrees dialect names (Direct t) = by_location (location_in dialect t.text)
   where
     by_location : (o : Option Loc) → Agrees (direct t o) (when (is_none o) kinds.BadLocation t.left)
     by_location None = ([], refl)
@@ -68,7 +67,7 @@ operand_gives dialect known (Constant t) y e = by_literal (literal_in dialect t.
     by_literal None h = absurd cc
     by_literal (Some (Bare z)) h = ap some (ok_is (operands.Bare z) y h)
     by_literal (Some (Typed v)) h = ap some (ok_is (operands.Literal v) y h)
-operand_gives dialect known (Direct t) y e = by_location (written.location_of t.text) e
+operand_gives dialect known (Direct t) y e = by_location (location_in dialect t.text) e
   where
     by_location : (o : Option Loc) → direct t o ≡ Ok y → option_map (λ loc. operands.Direct loc) o ≡ Some y
     by_location None h = absurd cc

@@ -1,6 +1,6 @@
 -- The names that were declared so far, as the walk keeps them.
 use Rattle.std.proofs.Common.{◌≡◌, ℕ, suc, Bool, true, false, cond, leb, List, [], ◌∷◌, ◌++◌, length, Option, Some, None, refl, sym, ap, ◌∙◌, ◌&&◌, ◌||◌, not}
-use Rattle.std.specs.Prelude.{is_some, unwrap_or}
+use Rattle.std.specs.Prelude.{is_some, nat_eq, unwrap_or}
 use Rattle.std.specs.List.{filter, filter_map, list_any, position, cons_option}
 use Rattle.std.specs.Option.{option_map}
 use Rattle.std.proofs.lemmas.List.{append-nil}
@@ -17,12 +17,15 @@ use Rattle.il_model.specs.Program.{Declarations}
 use Rattle.il_model.specs.Words.{same_name}
 use Rattle.il_model.specs.Codes.{is_taken, has_code}
 use Rattle.il_model.proofs.Positions.{position_first, position_later}
+use Rattle.il_model.proofs.WrittenLocations.{parts_seen}
+use Rattle.il_model.specs.Locations.{seen_as}
+use Rattle.il_model.specs.CodedOperands.{loc_code}
 use Rattle.il_reader.specs.Tokens.{Token}
 use Rattle.il_declarations.specs.declared.variables.DeclaredType.{DeclaredType}
 use Rattle.il_declarations.specs.declared.variables.DeclaredType.TheVariants.{Elementary, Block}
-use Rattle.il_declarations.specs.Resolution.{capitals, variable}
+use Rattle.il_declarations.specs.Resolution.{capitals, variable, place_as}
 use Rattle.il_declarations.specs.Walk.{has_name, has_instance, is_full, planned_value, with_declared}
-use Rattle.il_declarations.specs.Declaring.{DeclaredName, type_in, is_kind, is_instance, is_variable, location_in, start_of, variable_by, instance_by, instance_of, is_called, is_declared, names_variable, names_instance, is_occupied}
+use Rattle.il_declarations.specs.Declaring.{DeclaredName, type_in, is_kind, is_instance, is_variable, written_location, start_of, variable_by, instance_by, instance_of, is_called, is_declared, names_variable, names_instance, is_occupied}
 use Rattle.il_declarations.specs.TextFaults.{has_no_room}
 
 -- Whatever stands for the first value of an instance, of an unknown type or of a bad literal, is never used.
@@ -31,13 +34,13 @@ planned_start dialect loc initial None = values.Bool false
 planned_start dialect loc initial (Some (Elementary type)) = unwrap_or (start_of dialect type loc initial) (values.Bool false)
 planned_start dialect loc initial (Some (Block kind)) = values.Bool false
 
-abbrev pub planned_by : (dialect : Dialect) → List ℕ → Option Loc → Option Token → Option DeclaredType → Option Variable
-planned_by dialect name loc initial None = Some (variable name types.Bool loc (planned_start dialect loc initial None))
-planned_by dialect name loc initial (Some (Elementary type)) = Some (variable name type loc (planned_start dialect loc initial (Some (Elementary type))))
-planned_by dialect name loc initial (Some (Block kind)) = None
+abbrev pub planned_by : (dialect : Dialect) → Bool → List ℕ → Option Loc → Option Token → Option DeclaredType → Option Variable
+planned_by dialect r name loc initial None = Some (variable r name types.Bool loc (planned_start dialect loc initial None))
+planned_by dialect r name loc initial (Some (Elementary type)) = Some (variable r name type (option_map (seen_as type) loc) (planned_start dialect loc initial (Some (Elementary type))))
+planned_by dialect r name loc initial (Some (Block kind)) = None
 
 abbrev pub planned : (dialect : Dialect) → DeclaredName → Option Variable
-planned dialect x = planned_by dialect (capitals x.name.text) (location_in x.by.names) x.by.initial (type_in dialect x.by)
+planned dialect x = planned_by dialect x.retained (capitals x.name.text) (written_location dialect x.by.names) x.by.initial (type_in dialect x.by)
 
 -- what the walk keeps
 abbrev pub made : (dialect : Dialect) → List DeclaredName → Declarations
@@ -69,35 +72,36 @@ any_kept h p q same (x ∷ xs) = found (h x) ∙ (ap (λ (b : Bool). b || list_a
     found None = refl
     found (Some y) = refl
 
-variable_called : (dialect : Dialect) → (name n : List ℕ) (loc : Option Loc) (initial : Option Token) (o : Option DeclaredType) → passes (λ (v : Variable). same_name v.name n) (planned_by dialect name loc initial o) ≡ (not (is_kind o) && same_name name n)
-variable_called dialect name n loc initial None = refl
-variable_called dialect name n loc initial (Some (Elementary type)) = refl
-variable_called dialect name n loc initial (Some (Block kind)) = refl
+variable_called : (dialect : Dialect) → (r : Bool) (name n : List ℕ) (loc : Option Loc) (initial : Option Token) (o : Option DeclaredType) → passes (λ (v : Variable). same_name v.name n) (planned_by dialect r name loc initial o) ≡ (not (is_kind o) && same_name name n)
+variable_called dialect r name n loc initial None = refl
+variable_called dialect r name n loc initial (Some (Elementary type)) = refl
+variable_called dialect r name n loc initial (Some (Block kind)) = refl
 
-instance_called : (name n : List ℕ) (o : Option DeclaredType) → passes (λ (x : Instance). same_name x.name n) (instance_by name o) ≡ (is_kind o && same_name name n)
-instance_called name n None = refl
-instance_called name n (Some (Elementary type)) = refl
-instance_called name n (Some (Block kind)) = refl
+instance_called : (r : Bool) (name n : List ℕ) (o : Option DeclaredType) → passes (λ (x : Instance). same_name x.name n) (instance_by r name o) ≡ (is_kind o && same_name name n)
+instance_called r name n None = refl
+instance_called r name n (Some (Elementary type)) = refl
+instance_called r name n (Some (Block kind)) = refl
 
-variable_placed : (dialect : Dialect) → (name : List ℕ) (n : ℕ) (loc : Option Loc) (initial : Option Token) (o : Option DeclaredType) → passes (λ (v : Variable). has_code n v.location) (planned_by dialect name loc initial o) ≡ (not (is_kind o) && has_code n loc)
-variable_placed dialect name n loc initial None = refl
-variable_placed dialect name n loc initial (Some (Elementary type)) = refl
-variable_placed dialect name n loc initial (Some (Block kind)) = refl
+variable_placed : (dialect : Dialect) → (r : Bool) (name : List ℕ) (n : ℕ) (loc : Option Loc) (initial : Option Token) (o : Option DeclaredType) → passes (λ (v : Variable). has_code n v.location) (planned_by dialect r name loc initial o) ≡ (not (is_kind o) && has_code n loc)
+variable_placed dialect r name n loc initial None = refl
+variable_placed dialect r name n None initial (Some (Elementary type)) = refl
+variable_placed dialect r name n (Some l) initial (Some (Elementary type)) = ap (λ (parts : List Loc). list_any (λ (part : Loc). nat_eq (loc_code part) n) parts) (parts_seen type l)
+variable_placed dialect r name n loc initial (Some (Block kind)) = refl
 
 pub name_known : (dialect : Dialect) → (names : List DeclaredName) (n : List ℕ) → has_name (made dialect names) n ≡ names_variable dialect names n
 name_known dialect names n =
     any_position (λ (v : Variable). same_name v.name n) (filter_map (planned dialect) names)
-    ∙ any_kept (planned dialect) (λ (v : Variable). same_name v.name n) (λ x. is_variable dialect x && is_called n x) (λ x. variable_called dialect (capitals x.name.text) n (location_in x.by.names) x.by.initial (type_in dialect x.by)) names
+    ∙ any_kept (planned dialect) (λ (v : Variable). same_name v.name n) (λ x. is_variable dialect x && is_called n x) (λ x. variable_called dialect x.retained (capitals x.name.text) n (written_location dialect x.by.names) x.by.initial (type_in dialect x.by)) names
 
 pub instance_known : (dialect : Dialect) → (names : List DeclaredName) (n : List ℕ) → has_instance (made dialect names) n ≡ names_instance dialect names n
 instance_known dialect names n =
     any_position (λ (x : Instance). same_name x.name n) (filter_map (instance_of dialect) names)
-    ∙ any_kept (instance_of dialect) (λ (x : Instance). same_name x.name n) (λ x. is_instance dialect x && is_called n x) (λ x. instance_called (capitals x.name.text) n (type_in dialect x.by)) names
+    ∙ any_kept (instance_of dialect) (λ (x : Instance). same_name x.name n) (λ x. is_instance dialect x && is_called n x) (λ x. instance_called x.retained (capitals x.name.text) n (type_in dialect x.by)) names
 
 pub place_known : (dialect : Dialect) → (names : List DeclaredName) (n : ℕ) → is_taken (made dialect names).variables n ≡ is_occupied dialect names n
 place_known dialect names n =
     any_position (λ (v : Variable). has_code n v.location) (filter_map (planned dialect) names)
-    ∙ any_kept (planned dialect) (λ (v : Variable). has_code n v.location) (λ x. is_variable dialect x && has_code n (location_in x.by.names)) (λ x. variable_placed dialect (capitals x.name.text) n (location_in x.by.names) x.by.initial (type_in dialect x.by)) names
+    ∙ any_kept (planned dialect) (λ (v : Variable). has_code n v.location) (λ x. is_variable dialect x && has_code n (written_location dialect x.by.names)) (λ x. variable_placed dialect x.retained (capitals x.name.text) n (written_location dialect x.by.names) x.by.initial (type_in dialect x.by)) names
 
 both : (i c a b d : Bool) → (a || b) ≡ d → (((not i && c) || a) || ((i && c) || b)) ≡ (c || d)
 both true true true b d e = refl
@@ -119,7 +123,7 @@ variables_counted : (dialect : Dialect) → (names : List DeclaredName) → leng
 variables_counted dialect [] = refl
 variables_counted dialect (x ∷ xs) = step (type_in dialect x.by) (variables_counted dialect xs)
   where
-    step : (o : Option DeclaredType) → length (filter_map (planned dialect) xs) ≡ length (filter (is_variable dialect) xs) → length (cons_option (planned_by dialect (capitals x.name.text) (location_in x.by.names) x.by.initial o) (filter_map (planned dialect) xs)) ≡ length (cond (not (is_kind o)) (x ∷ filter (is_variable dialect) xs) (filter (is_variable dialect) xs))
+    step : (o : Option DeclaredType) → length (filter_map (planned dialect) xs) ≡ length (filter (is_variable dialect) xs) → length (cons_option (planned_by dialect x.retained (capitals x.name.text) (written_location dialect x.by.names) x.by.initial o) (filter_map (planned dialect) xs)) ≡ length (cond (not (is_kind o)) (x ∷ filter (is_variable dialect) xs) (filter (is_variable dialect) xs))
     step None more = ap suc more
     step (Some (Elementary type)) more = ap suc more
     step (Some (Block kind)) more = more
@@ -128,7 +132,7 @@ instances_counted : (dialect : Dialect) → (names : List DeclaredName) → leng
 instances_counted dialect [] = refl
 instances_counted dialect (x ∷ xs) = step (type_in dialect x.by) (instances_counted dialect xs)
   where
-    step : (o : Option DeclaredType) → length (filter_map (instance_of dialect) xs) ≡ length (filter (is_instance dialect) xs) → length (cons_option (instance_by (capitals x.name.text) o) (filter_map (instance_of dialect) xs)) ≡ length (cond (is_kind o) (x ∷ filter (is_instance dialect) xs) (filter (is_instance dialect) xs))
+    step : (o : Option DeclaredType) → length (filter_map (instance_of dialect) xs) ≡ length (filter (is_instance dialect) xs) → length (cons_option (instance_by x.retained (capitals x.name.text) o) (filter_map (instance_of dialect) xs)) ≡ length (cond (is_kind o) (x ∷ filter (is_instance dialect) xs) (filter (is_instance dialect) xs))
     step None more = more
     step (Some (Elementary type)) more = more
     step (Some (Block kind)) more = ap suc more
@@ -148,28 +152,42 @@ planned_same dialect (Some (Elementary type)) (Some t) = refl
 planned_same dialect (Some (Block kind)) None = refl
 planned_same dialect (Some (Block kind)) (Some t) = refl
 
-pub one_more : (dialect : Dialect) → (names : List DeclaredName) (x : DeclaredName) (o ty : Option DeclaredType) (loc : Option Loc) (v : Value) → type_in dialect x.by ≡ o → location_in x.by.names ≡ loc → v ≡ planned_start dialect loc x.by.initial o
-    → with_declared (record { ty = ty; initial = v }) (made dialect names) (capitals x.name.text) loc o ≡ made dialect (names ++ x ∷ [])
+-- where a declaration of a type puts its variable
+abbrev pub placed : Option DeclaredType → Option Loc → Option Loc
+placed type None = None
+placed None (Some l) = Some l
+placed (Some type) (Some l) = Some (place_as type l)
+
+not_placed : (loc : Option Loc) → placed None loc ≡ loc
+not_placed None = refl
+not_placed (Some l) = refl
+
+placed_seen : (type : Ty) (loc : Option Loc) → placed (Some (Elementary type)) loc ≡ option_map (seen_as type) loc
+placed_seen type None = refl
+placed_seen type (Some l) = refl
+
+pub one_more : (dialect : Dialect) → (names : List DeclaredName) (x : DeclaredName) (o ty : Option DeclaredType) (loc : Option Loc) (v : Value) → type_in dialect x.by ≡ o → written_location dialect x.by.names ≡ loc → v ≡ planned_start dialect loc x.by.initial o
+    → with_declared (record { ty = ty; initial = v; retained = x.retained }) (made dialect names) (capitals x.name.text) (placed o loc) o ≡ made dialect (names ++ x ∷ [])
 one_more dialect names x o ty loc v type place start =
     by_type o start
-    ∙ sym (ap (λ (q : Option DeclaredType). grown (planned_by dialect (capitals x.name.text) (location_in x.by.names) x.by.initial q) (instance_by (capitals x.name.text) q)) type
-    ∙ ap (λ (l : Option Loc). grown (planned_by dialect (capitals x.name.text) l x.by.initial o) (instance_by (capitals x.name.text) o)) place)
+    ∙ sym (ap (λ (q : Option DeclaredType). grown (planned_by dialect x.retained (capitals x.name.text) (written_location dialect x.by.names) x.by.initial q) (instance_by x.retained (capitals x.name.text) q)) type
+    ∙ ap (λ (l : Option Loc). grown (planned_by dialect x.retained (capitals x.name.text) l x.by.initial o) (instance_by x.retained (capitals x.name.text) o)) place)
     ∙ sym (rw (filter_map-append (planned dialect) names (x ∷ []), filter_map-append (instance_of dialect) names (x ∷ [])) refl)
   where
     grown : Option Variable → Option Instance → Declarations
     grown a b = record { variables = filter_map (planned dialect) names ++ cons_option a []; instances = filter_map (instance_of dialect) names ++ cons_option b [] }
 
-    by_type : (q : Option DeclaredType) → v ≡ planned_start dialect loc x.by.initial q → with_declared (record { ty = ty; initial = v }) (made dialect names) (capitals x.name.text) loc q ≡ grown (planned_by dialect (capitals x.name.text) loc x.by.initial q) (instance_by (capitals x.name.text) q)
-    by_type None e = rw (e, append-nil (filter_map (instance_of dialect) names)) refl
-    by_type (Some (Elementary type)) e = rw (e, append-nil (filter_map (instance_of dialect) names)) refl
+    by_type : (q : Option DeclaredType) → v ≡ planned_start dialect loc x.by.initial q → with_declared (record { ty = ty; initial = v; retained = x.retained }) (made dialect names) (capitals x.name.text) (placed q loc) q ≡ grown (planned_by dialect x.retained (capitals x.name.text) loc x.by.initial q) (instance_by x.retained (capitals x.name.text) q)
+    by_type None e = rw (e, append-nil (filter_map (instance_of dialect) names), not_placed loc) refl
+    by_type (Some (Elementary type)) e = rw (e, append-nil (filter_map (instance_of dialect) names), placed_seen type loc) refl
     by_type (Some (Block kind)) e = rw (append-nil (filter_map (planned dialect) names)) refl
 
 -- ---- first values
 
-pub start_planned : (dialect : Dialect) → (type : DeclaredType) (name : List ℕ) (loc : Option Loc) (initial : Option Token) → ((t : Ty) → type ≡ Elementary t → is_some (start_of dialect t loc initial) ≡ true) → planned_by dialect name loc initial (Some type) ≡ variable_by dialect name loc initial (Some type)
-start_planned dialect (Block kind) name loc initial good = refl
-start_planned dialect (Elementary t) name loc initial good = by_start (start_of dialect t loc initial) (good t refl)
+pub start_planned : (dialect : Dialect) → (r : Bool) (type : DeclaredType) (name : List ℕ) (loc : Option Loc) (initial : Option Token) → ((t : Ty) → type ≡ Elementary t → is_some (start_of dialect t loc initial) ≡ true) → planned_by dialect r name loc initial (Some type) ≡ variable_by dialect r name loc initial (Some type)
+start_planned dialect r (Block kind) name loc initial good = refl
+start_planned dialect r (Elementary t) name loc initial good = by_start (start_of dialect t loc initial) (good t refl)
   where
-    by_start : (o : Option Value) → is_some o ≡ true → Some (variable name t loc (unwrap_or o (values.Bool false))) ≡ option_map (variable name t loc) o
+    by_start : (o : Option Value) → is_some o ≡ true → Some (variable r name t (option_map (seen_as t) loc) (unwrap_or o (values.Bool false))) ≡ option_map (variable r name t (option_map (seen_as t) loc)) o
     by_start None e = absurd cc
     by_start (Some v) e = refl

@@ -4,16 +4,14 @@ use Rattle.std.specs.Prelude.{is_none, nat_le}
 use Rattle.std.specs.List.{flat_map, AllByRecursion}
 use Rattle.std.proofs.lemmas.List.{append-nil}
 use Rattle.il_model.specs.declared.dialect.Dialect.{Dialect}
-use Rattle.il_model.specs.Dialects.{literal_in}
+use Rattle.il_model.specs.Dialects.{literal_in, location_in}
 use Rattle.il_model.specs.declared.program.Loc.{Loc}
 use Rattle.il_model.specs.declared.program.Side.{Side}
 use Rattle.il_model.specs.declared.program.Side.TheVariants as sides
 use Rattle.il_model.specs.Words.{is_reserved}
-use Rattle.il_model.specs.CodedOperands.{loc_code}
-use Rattle.il_model.specs.Locations.{location_of}
 use Rattle.il_reader.specs.Tokens.{Token}
-use Rattle.il_reader.specs.Grammar.{OperandText, Constant, Direct, Named, Field, BehindText, Nothing, Given, Target, Opened, Called, ArgumentText, written_arguments, OperationText, LineText, Labelled, Plain, NamesText, Located, More, DeclarationText, ProgramText, ends_names, ends_block, ends_blocks, ends_lines, ends_named, ends_arguments, is_line_stop}
-use Rattle.il_reader.specs.Spelling.{Part, breaks, ahead, Says, spelled_operand, spelled_inner_operand, spelled_side, spelled_argument, spelled_next, spelled_inside, spelled_arguments, spelled_behind, spelled_operation, spelled_optional_operation, spelled_line, spelled_name, spelled_names, spelled_initial, spelled_declaration, spelled_block, spelled_program, spelled_by, going, listed}
+use Rattle.il_reader.specs.Grammar.{BlockText, is_retained, OperandText, Constant, Direct, Named, Field, BehindText, Nothing, Given, Target, Opened, Called, ArgumentText, written_arguments, OperationText, LineText, Labelled, Plain, NamesText, Located, More, DeclarationText, ProgramText, ends_names, ends_block, ends_blocks, ends_lines, ends_named, ends_arguments, is_line_stop}
+use Rattle.il_reader.specs.Spelling.{spelled_qualifier, Part, breaks, ahead, Says, spelled_operand, spelled_inner_operand, spelled_side, spelled_argument, spelled_next, spelled_inside, spelled_arguments, spelled_behind, spelled_operation, spelled_optional_operation, spelled_line, spelled_name, spelled_names, spelled_initial, spelled_declaration, spelled_block, spelled_program, spelled_by, going, listed}
 use Rattle.il_declarations.specs.declared.variables.DeclaredType.{DeclaredType}
 use Rattle.il_declarations.specs.declared.variables.DeclaredType.TheVariants.{Elementary, Block}
 use Rattle.il_declarations.specs.declared.fault.DeclKind.{DeclKind}
@@ -21,8 +19,8 @@ use Rattle.il_declarations.specs.declared.fault.DeclKind.TheVariants as kinds
 use Rattle.il_declarations.specs.declared.fault.FaultAt.{FaultAt}
 use Rattle.il_declarations.specs.FirstFault.{kind_number, IsNoLater}
 use Rattle.il_declarations.specs.Resolution.{capitals, suits, written_value}
-use Rattle.il_declarations.specs.Declaring.{DeclaredName, named_in, other_names, names_in, names_of, type_in, location_in, is_declared, is_occupied, names_variable, names_instance, arguments_behind}
-use Rattle.il_declarations.specs.TextFaults.{has_no_room}
+use Rattle.il_declarations.specs.Declaring.{DeclaredName, BlockDeclaration, in_block, declarations_in, named_in, other_names, names_in, names_of, type_in, written_location, is_declared, names_variable, names_instance, arguments_behind}
+use Rattle.il_declarations.specs.TextFaults.{has_no_room, is_overlapping}
 use Rattle.il_declarations.proofs.Agreeing.{beside_append}
 use Rattle.il_declarations.proofs.FaultList.{when, beside, name_faults, place_faults, location_faults, start_faults, declaration_faults, operand_faults, behind_faults, operation_faults, line_faults, faults_of, Among}
 use Rattle.il_declarations.proofs.Falling.{Falls, split, at_most, text_falls, operator_at}
@@ -76,6 +74,11 @@ wider n k m fs a le =
     let high = a.most in
     record { most = omega arith; inside = all_map (Between n k) (Between n m) (λ f h. let l = h.0 in let u = h.1 in (omega arith, omega arith)) fs a.inside; order = a.order }
 
+earlier : (n k m : ℕ) (fs : List FaultAt) → Ordered k fs m → k ≤ n → Ordered n fs m
+earlier n k m fs a le =
+    let high = a.most in
+    record { most = omega arith; inside = all_map (Between k m) (Between n m) (λ f h. let l = h.0 in let u = h.1 in (omega arith, omega arith)) fs a.inside; order = a.order }
+
 -- ---- faults at one token
 
 one_fault : (n left : ℕ) (a : Bool) (kind : DeclKind) → left < n → Ordered n (when a kind left) left
@@ -103,7 +106,7 @@ name_ordered dialect n before x lt =
 place_ordered : (dialect : Dialect) → (n : ℕ) (before : List DeclaredName) (type : Option DeclaredType) (t : Token) (o : Option Loc) → t.left < n → Ordered n (place_faults dialect before type t o) t.left
 place_ordered dialect n before type t None lt = one_fault n t.left true kinds.BadLocation lt
 place_ordered dialect n before type t (Some loc) lt =
-    let taken = is_occupied dialect before (loc_code loc) in
+    let taken = is_overlapping dialect before (Some loc) in
     more_faults n t.left (not (suits type loc)) kinds.BadLocation (when taken kinds.Overlap t.left) lt (one_fault n t.left taken kinds.Overlap lt) (here _ taken kinds.Overlap t.left (refl, omega arith))
 
 -- ---- lists
@@ -127,23 +130,23 @@ items_ordered s fs each before xs n m falls = subst (λ (ys : List _). Ordered n
 
 -- ---- declarations
 
-other_ordered : (dialect : Dialect) → (d : DeclarationText) (before : List DeclaredName) (t : Token) (n m : ℕ) → Falls n (spelled_name t) m → Ordered n (name_faults dialect before (named_in d t)) m
+other_ordered : (dialect : Dialect) → (d : BlockDeclaration) (before : List DeclaredName) (t : Token) (n m : ℕ) → Falls n (spelled_name t) m → Ordered n (name_faults dialect before (named_in d t)) m
 other_ordered dialect d before t n m falls = wider n t.left m _ (name_ordered dialect n before (named_in d t) falls.0) falls.1
 
-abbrev names_and_place : (dialect : Dialect) → DeclarationText → List DeclaredName → NamesText → List FaultAt
-names_and_place dialect d before x = beside (name_faults dialect) before (map (named_in d) (d.name ∷ other_names x)) ++ location_faults dialect before (type_in dialect d) x
+abbrev names_and_place : (dialect : Dialect) → BlockDeclaration → List DeclaredName → NamesText → List FaultAt
+names_and_place dialect d before x = beside (name_faults dialect) before (map (named_in d) (d.text.name ∷ other_names x)) ++ location_faults dialect before (type_in dialect d.text) x
 
-names_ordered : (dialect : Dialect) → (d : DeclarationText) (before : List DeclaredName) (x : NamesText) (n m : ℕ) → d.name.left < n → Falls d.name.left (spelled_names x) m → Ordered n (names_and_place dialect d before x) m
+names_ordered : (dialect : Dialect) → (d : BlockDeclaration) (before : List DeclaredName) (x : NamesText) (n m : ℕ) → d.text.name.left < n → Falls d.text.name.left (spelled_names x) m → Ordered n (names_and_place dialect d before x) m
 unfolding beside
 names_ordered dialect d before (Located at) n m lt falls =
-    both n d.name.left m _ _
-    (subst (λ (fs : List FaultAt). Ordered n fs d.name.left) (sym (append-nil (name_faults dialect before (named_in d d.name)))) (name_ordered dialect n before (named_in d d.name) lt))
-    (wider d.name.left at.left m _ (place_ordered dialect d.name.left before (type_in dialect d) at (location_of at.text) falls.0) falls.1)
+    both n d.text.name.left m _ _
+    (subst (λ (fs : List FaultAt). Ordered n fs d.text.name.left) (sym (append-nil (name_faults dialect before (named_in d d.text.name)))) (name_ordered dialect n before (named_in d d.text.name) lt))
+    (wider d.text.name.left at.left m _ (place_ordered dialect d.text.name.left before (type_in dialect d.text) at (location_in dialect at.text) falls.0) falls.1)
 names_ordered dialect d before (More ts) n m lt falls =
-    let h = split d.name.left (flat_map spelled_name ts) (ahead ends_names ∷ []) m falls in
-    subst (λ (fs : List FaultAt). Ordered n fs m) (sym (append-nil (beside (name_faults dialect) before (map (named_in d) (d.name ∷ ts)))))
+    let h = split d.text.name.left (flat_map spelled_name ts) (ahead ends_names ∷ []) m falls in
+    subst (λ (fs : List FaultAt). Ordered n fs m) (sym (append-nil (beside (name_faults dialect) before (map (named_in d) (d.text.name ∷ ts)))))
     (wider n h.0 m _
-    (both n d.name.left h.0 _ _ (name_ordered dialect n before (named_in d d.name) lt) (beside_ordered spelled_name (named_in d) (name_faults dialect) (other_ordered dialect d) (before ++ named_in d d.name ∷ []) ts d.name.left h.0 h.1))
+    (both n d.text.name.left h.0 _ _ (name_ordered dialect n before (named_in d d.text.name) lt) (beside_ordered spelled_name (named_in d) (name_faults dialect) (other_ordered dialect d) (before ++ named_in d d.text.name ∷ []) ts d.text.name.left h.0 h.1))
     h.2)
 
 start_ordered : (dialect : Dialect) → (n m : ℕ) (loc : Option Loc) (o : Option Token) (type : Option DeclaredType) → Falls n (spelled_initial o) m → Ordered n (start_faults dialect loc o type) m
@@ -152,36 +155,44 @@ start_ordered dialect n m loc (Some t) None falls = none n m (at_most n (spelled
 start_ordered dialect n m loc (Some t) (Some (Elementary type)) falls = wider n t.left m _ (one_fault n t.left (is_none (written_value dialect type loc t)) kinds.BadInitial falls.0) falls.1
 start_ordered dialect n m loc (Some t) (Some (Block kind)) falls = wider n t.left m _ (one_fault n t.left true kinds.BadInitial falls.0) falls.1
 
-declaration_ordered : (dialect : Dialect) → (before : List DeclarationText) (d : DeclarationText) (n m : ℕ) → Falls n (going ends_block spelled_declaration d) m → Ordered n (declaration_faults dialect (flat_map names_in before) d) m
+declaration_ordered : (dialect : Dialect) → (before : List BlockDeclaration) (d : BlockDeclaration) (n m : ℕ) → Falls n (going ends_block spelled_declaration d.text) m → Ordered n (declaration_faults dialect (flat_map names_in before) d) m
 declaration_ordered dialect before d n m falls =
     let seen = flat_map names_in before in
-    let h = split d.name.left (spelled_names d.names) _ m falls.1 in
-    let k = split d.ty.left (spelled_initial d.initial) _ m h.2.1 in
-    subst (λ (fs : List FaultAt). Ordered n fs m) (append_assoc (beside (name_faults dialect) seen (names_in d)) (location_faults dialect seen (type_in dialect d) d.names) _)
-    (both n h.0 m _ _ (names_ordered dialect d seen d.names n h.0 falls.0 h.1)
-    (both h.0 d.ty.left m _ _ (one_fault h.0 d.ty.left (is_none (type_in dialect d)) kinds.UnknownType h.2.0)
-    (wider d.ty.left k.0 m _ (start_ordered dialect d.ty.left k.0 (location_in d.names) d.initial (type_in dialect d) k.1) k.2)))
+    let h = split d.text.name.left (spelled_names d.text.names) _ m falls.1 in
+    let k = split d.text.ty.left (spelled_initial d.text.initial) _ m h.2.1 in
+    subst (λ (fs : List FaultAt). Ordered n fs m) (append_assoc (beside (name_faults dialect) seen (names_in d)) (location_faults dialect seen (type_in dialect d.text) d.text.names) _)
+    (both n h.0 m _ _ (names_ordered dialect d seen d.text.names n h.0 falls.0 h.1)
+    (both h.0 d.text.ty.left m _ _ (one_fault h.0 d.text.ty.left (is_none (type_in dialect d.text)) kinds.UnknownType h.2.0)
+    (wider d.text.ty.left k.0 m _ (start_ordered dialect d.text.ty.left k.0 (written_location dialect d.text.names) d.text.initial (type_in dialect d.text) k.1) k.2)))
 
-abbrev of_declaration : (dialect : Dialect) → List DeclarationText → DeclarationText → List FaultAt
+abbrev of_declaration : (dialect : Dialect) → List BlockDeclaration → BlockDeclaration → List FaultAt
 of_declaration dialect before d = declaration_faults dialect (flat_map names_in before) d
 
-blocks_ordered : (dialect : Dialect) → (before : List DeclarationText) (bs : List (List DeclarationText)) (n m : ℕ) → Falls n (flat_map (going (ends_blocks dialect) (spelled_block dialect)) bs) m → Ordered n (beside (of_declaration dialect) before (flat_map (λ ds. ds) bs)) m
+-- the declarations of a block, as they are spelled
+in_block_falls : (r : Bool) (ds : List DeclarationText) → flat_map (λ (d : BlockDeclaration). going ends_block spelled_declaration d.text) (map (in_block r) ds) ≡ flat_map (going ends_block spelled_declaration) ds
+in_block_falls r [] = refl
+in_block_falls r (d ∷ ds) = ap (λ (ps : List Part). going ends_block spelled_declaration d ++ ps) (in_block_falls r ds)
+
+blocks_ordered : (dialect : Dialect) → (before : List BlockDeclaration) (bs : List BlockText) (n m : ℕ) → Falls n (flat_map (going (ends_blocks dialect) (spelled_block dialect)) bs) m → Ordered n (beside (of_declaration dialect) before (flat_map declarations_in bs)) m
 unfolding beside
 blocks_ordered dialect before [] n m falls = none n m falls
-blocks_ordered dialect before (ds ∷ bs) n m falls =
-    let h = split n (going (ends_blocks dialect) (spelled_block dialect) ds) (flat_map (going (ends_blocks dialect) (spelled_block dialect)) bs) m falls in
-    let k = split n (listed ends_block spelled_declaration ds) _ h.0 h.1 in
-    let l = split n (flat_map (going ends_block spelled_declaration) ds) (ahead ends_block ∷ []) k.0 k.1 in
-    rw (beside_append (of_declaration dialect) before ds (flat_map (λ ds. ds) bs))
+blocks_ordered dialect before (b ∷ bs) n m falls =
+    let ds = declarations_in b in
+    let h = split n (going (ends_blocks dialect) (spelled_block dialect) b) (flat_map (going (ends_blocks dialect) (spelled_block dialect)) bs) m falls in
+    let q = split n (spelled_qualifier dialect b.qualifier) _ h.0 h.1 in
+    let k = split q.0 (listed ends_block spelled_declaration b.declarations) _ h.0 q.2 in
+    let l = split q.0 (flat_map (going ends_block spelled_declaration) b.declarations) (ahead ends_block ∷ []) k.0 k.1 in
+    let falls-in = subst (λ (ps : List Part). Falls q.0 ps l.0) (sym (in_block_falls (is_retained b) b.declarations)) l.1 in
+    rw (beside_append (of_declaration dialect) before ds (flat_map declarations_in bs))
     (both n h.0 m _ _
-    (wider n k.0 h.0 _ (wider n l.0 k.0 _ (items_ordered (going ends_block spelled_declaration) (of_declaration dialect) (declaration_ordered dialect) before ds n l.0 l.1) l.2) k.2)
+    (wider n k.0 h.0 _ (wider n l.0 k.0 _ (earlier n q.0 l.0 _ (items_ordered (λ (d : BlockDeclaration). going ends_block spelled_declaration d.text) (of_declaration dialect) (declaration_ordered dialect) before ds q.0 l.0 falls-in) (at_most n (spelled_qualifier dialect b.qualifier) q.0 q.1)) l.2) k.2)
     (blocks_ordered dialect (before ++ ds) bs h.0 m h.2))
 
 -- ---- instructions
 
 operand_ordered : (dialect : Dialect) → (names : List DeclaredName) (x : OperandText) (n m : ℕ) → Falls n (spelled_operand x) m → Ordered n (operand_faults dialect names x) m
 operand_ordered dialect names (Constant t) n m falls = wider n t.left m _ (one_fault n t.left (is_none (literal_in dialect t.text)) kinds.UnknownName falls.0) falls.1
-operand_ordered dialect names (Direct t) n m falls = wider n t.left m _ (one_fault n t.left (is_none (location_of t.text)) kinds.BadLocation falls.0) falls.1
+operand_ordered dialect names (Direct t) n m falls = wider n t.left m _ (one_fault n t.left (is_none (location_in dialect t.text)) kinds.BadLocation falls.0) falls.1
 operand_ordered dialect names (Named t) n m falls = wider n t.left m _ (one_fault n t.left (not (names_variable dialect names (capitals t.text))) kinds.UnknownName falls.0) falls.1
 operand_ordered dialect names (Field t f) n m falls =
     let below = falls.1.0 in

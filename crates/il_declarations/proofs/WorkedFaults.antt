@@ -1,5 +1,5 @@
 -- Worked rows of what texts declare and of their faults.
-use Rattle.std.proofs.Common.{inl, ℕ, List, [], ◌∷◌, Some, None, refl, arith}
+use Rattle.std.proofs.Common.{inl, ℕ, false, List, [], ◌∷◌, Some, None, refl, arith}
 use Rattle.std.specs.Prelude.{codes, pos}
 use Rattle.il_model.specs.declared.dialect.Dialect.{Dialect}
 use Rattle.il_model.specs.declared.dialect.Dialect.TheVariants as dialects
@@ -16,7 +16,7 @@ use Rattle.il_reader.specs.Tokens.{Token}
 use Rattle.il_reader.specs.Grammar.{Named, Given, LineText, Labelled, More, DeclarationText, ProgramText}
 use Rattle.il_declarations.specs.declared.fault.DeclKind.TheVariants as kinds
 use Rattle.il_declarations.specs.Resolution.{plain, variable}
-use Rattle.il_declarations.specs.Declaring.{named_in, IsProgramOf}
+use Rattle.il_declarations.specs.Declaring.{in_block, named_in, IsProgramOf}
 use Rattle.il_declarations.specs.TextFaults.{HasFault}
 use Rattle.il_declarations.specs.FirstFault.{IsNoLater}
 
@@ -24,7 +24,7 @@ abbrev word : List ℕ → ℕ → Token
 word text left = record { class = classes.Sign signs.Name; text = text; left = left }
 
 abbrev one_block : List DeclarationText → List LineText → ProgramText
-one_block ds ls = record { name = None; blocks = ds ∷ []; lines = ls }
+one_block ds ls = record { name = None; blocks = record { qualifier = None; declarations = ds } ∷ []; lines = ls }
 
 -- VAR A, a : FOO; END_VAR
 abbrev twice : DeclarationText
@@ -32,13 +32,13 @@ twice = record { name = word (codes "A") 19; names = More (word (codes "a") 16 �
 
 -- the second name is the first one's again
 pub is_doubled : (dialect : Dialect) → HasFault dialect (one_block (twice ∷ []) []) (record { kind = kinds.Duplicate; left = 16 })
-is_doubled dialect = record { before = named_in twice (word (codes "A") 19) ∷ []; item = named_in twice (word (codes "a") 16); behind = []; is = refl; holds = (refl, refl) }
+is_doubled dialect = record { before = named_in (in_block false twice) (word (codes "A") 19) ∷ []; item = named_in (in_block false twice) (word (codes "a") 16); behind = []; is = refl; holds = (refl, refl) }
 
 -- and there is no such type
 pub is_unknown : (dialect : Dialect) → HasFault dialect (one_block (twice ∷ []) []) (record { kind = kinds.UnknownType; left = 12 })
 unfolding spells
-is_unknown dialects.Plain = record { before = []; item = twice; behind = []; is = refl; holds = (refl, refl) }
-is_unknown dialects.Extended = record { before = []; item = twice; behind = []; is = refl; holds = (refl, refl) }
+is_unknown dialects.Plain = record { before = []; item = in_block false twice; behind = []; is = refl; holds = (refl, refl) }
+is_unknown dialects.Extended = record { before = []; item = in_block false twice; behind = []; is = refl; holds = (refl, refl) }
 
 -- the name stands first
 pub name_first : IsNoLater (record { kind = kinds.Duplicate; left = 16 }) (record { kind = kinds.UnknownType; left = 12 })
@@ -56,8 +56,8 @@ load = Labelled (word (codes "L") 8) (Some (record { operator = record { mnemoni
 
 abbrev small : Program
 small = record {
-  variables = variable (codes "X") types.Int None (values.Int (pos 0)) ∷ [];
-  instances = record { name = codes "T1"; kind = blocks.Ton } ∷ [];
+  variables = variable false (codes "X") types.Int None (values.Int (pos 0)) ∷ [];
+  instances = record { name = codes "T1"; kind = blocks.Ton; retained = false } ∷ [];
   code = record { label = Some (codes "L"); op = ops.Ld; modifier = plain; operand = operands.Variable (codes "X"); arguments = [] } ∷ [];
 }
 

@@ -4,7 +4,7 @@ use Rattle.std.specs.Prelude.{◌≡◌, ℕ, List, [], ◌∷◌, map, Option, 
 use Rattle.std.specs.List.{flat_map, filter_map, list_any, AllZip}
 use Rattle.std.specs.Option.{option_map}
 use Rattle.il_model.specs.declared.dialect.Dialect.{Dialect}
-use Rattle.il_model.specs.Dialects.{literal_in}
+use Rattle.il_model.specs.Dialects.{literal_in, location_in}
 use Rattle.il_model.specs.declared.value.Ty.{Ty}
 use Rattle.il_model.specs.declared.value.Value.{Value}
 use Rattle.il_model.specs.declared.literal.Literal.{Literal}
@@ -21,35 +21,49 @@ use Rattle.il_model.specs.Program.{Program}
 use Rattle.il_model.specs.Words.{same_name}
 use Rattle.il_model.specs.Values.{zero_of}
 use Rattle.il_model.specs.Codes.{has_code}
-use Rattle.il_model.specs.Locations.{location_of}
+use Rattle.il_model.specs.Locations.{seen_as}
 use Rattle.il_reader.specs.Tokens.{Token}
 use Rattle.il_reader.specs.Grammar.{OperandText, Constant, Direct, Named, Field, BehindText, Nothing, Given, Target}
 use Rattle.il_reader.specs.Grammar.{Opened, Called, ArgumentText, arguments_of, OperationText, LineText, Labelled}
-use Rattle.il_reader.specs.Grammar.{Plain, NamesText, Located, More, DeclarationText, ProgramText}
+use Rattle.il_reader.specs.Grammar.{Plain, NamesText, Located, More, DeclarationText, BlockText, ProgramText}
+use Rattle.il_reader.specs.Grammar.{is_retained}
 use Rattle.il_declarations.specs.declared.variables.DeclaredType.{DeclaredType}
 use Rattle.il_declarations.specs.declared.variables.DeclaredType.TheVariants as declared
 use Rattle.il_declarations.specs.Resolution.{capitals, declared_type, variable, written_value, opens, with_opening, plain}
 
 -- ---- the names that a text declares
 
--- a name, and the declaration that it stands in
+-- a name, the declaration that it stands in, and whether that stands in a block whose variables and instances are
+-- retained
 pub record DeclaredName : Type 0 where
   pub name : Token
   pub by : DeclarationText
+  pub retained : Bool
 
-abbrev pub named_in : DeclarationText → Token → DeclaredName
-named_in d t = record { name = t; by = d }
+-- a declaration, and the same of its block
+pub record BlockDeclaration : Type 0 where
+  pub text : DeclarationText
+  pub retained : Bool
+
+abbrev pub named_in : BlockDeclaration → Token → DeclaredName
+named_in d t = record { name = t; by = d.text; retained = d.retained }
 
 abbrev pub other_names : NamesText → List Token
 other_names (Located at) = []
 other_names (More ts) = ts
 
-abbrev pub names_in : DeclarationText → List DeclaredName
-names_in d = map (named_in d) (d.name ∷ other_names d.names)
+abbrev pub names_in : BlockDeclaration → List DeclaredName
+names_in d = map (named_in d) (d.text.name ∷ other_names d.text.names)
+
+abbrev pub in_block : Bool → DeclarationText → BlockDeclaration
+in_block retained d = record { text = d; retained = retained }
+
+abbrev pub declarations_in : BlockText → List BlockDeclaration
+declarations_in b = map (in_block (is_retained b)) b.declarations
 
 -- the declarations of all blocks
-abbrev pub declarations_of : ProgramText → List DeclarationText
-declarations_of p = flat_map (λ ds. ds) p.blocks
+abbrev pub declarations_of : ProgramText → List BlockDeclaration
+declarations_of p = flat_map declarations_in p.blocks
 
 abbrev pub names_of : ProgramText → List DeclaredName
 names_of p = flat_map names_in (declarations_of p)
@@ -69,10 +83,10 @@ is_instance dialect x = is_kind (type_in dialect x.by)
 abbrev pub is_variable : Dialect → DeclaredName → Bool
 is_variable dialect x = not (is_instance dialect x)
 
--- where a declaration puts its variable
-abbrev pub location_in : NamesText → Option Loc
-location_in (Located at) = location_of at.text
-location_in (More ts) = None
+-- the location that a declaration says
+abbrev pub written_location : Dialect → NamesText → Option Loc
+written_location dialect (Located at) = location_in dialect at.text
+written_location dialect (More ts) = None
 
 -- the first value of a variable: the one that is written, where it fits and the variable is no input, and else that of
 -- the type
@@ -80,23 +94,24 @@ abbrev pub start_of : Dialect → Ty → Option Loc → Option Token → Option 
 start_of dialect type loc None = Some (zero_of type)
 start_of dialect type loc (Some t) = written_value dialect type loc t
 
-abbrev pub variable_by : Dialect → List ℕ → Option Loc → Option Token → Option DeclaredType → Option Variable
-variable_by dialect name loc initial (Some (declared.Elementary type)) =
-    option_map (variable name type loc) (start_of dialect type loc initial)
-variable_by dialect name loc initial type = None
+abbrev pub variable_by : Dialect → Bool → List ℕ → Option Loc → Option Token → Option DeclaredType → Option Variable
+variable_by dialect retained name loc initial (Some (declared.Elementary type)) =
+    option_map (variable retained name type (option_map (seen_as type) loc)) (start_of dialect type loc initial)
+variable_by dialect retained name loc initial type = None
 
 -- the variable of a name; there is one where its type and its first value are good
 abbrev pub variable_of : Dialect → DeclaredName → Option Variable
-variable_of dialect x =
-    variable_by dialect (capitals x.name.text) (location_in x.by.names) x.by.initial (type_in dialect x.by)
+variable_of dialect x = variable_by dialect x.retained (capitals x.name.text) (written_location dialect x.by.names)
+    x.by.initial (type_in dialect x.by)
 
-abbrev pub instance_by : List ℕ → Option DeclaredType → Option Instance
-instance_by name (Some (declared.Block kind)) = Some (record { name = name; kind = kind })
-instance_by name type = None
+abbrev pub instance_by : Bool → List ℕ → Option DeclaredType → Option Instance
+instance_by retained name (Some (declared.Block kind)) =
+    Some (record { name = name; kind = kind; retained = retained })
+instance_by retained name type = None
 
 -- the instance of a name
 abbrev pub instance_of : Dialect → DeclaredName → Option Instance
-instance_of dialect x = instance_by (capitals x.name.text) (type_in dialect x.by)
+instance_of dialect x = instance_by x.retained (capitals x.name.text) (type_in dialect x.by)
 
 -- ---- looking up
 
@@ -113,9 +128,10 @@ names_variable dialect names name = list_any (λ x. is_variable dialect x && is_
 abbrev pub names_instance : Dialect → List DeclaredName → List ℕ → Bool
 names_instance dialect names name = list_any (λ x. is_instance dialect x && is_called name x) names
 
--- a variable with one of the names lies there
+-- a variable with one of the names lies at the bit or the word of a code
 abbrev pub is_occupied : Dialect → List DeclaredName → ℕ → Bool
-is_occupied dialect names code = list_any (λ x. is_variable dialect x && has_code code (location_in x.by.names)) names
+is_occupied dialect names code =
+    list_any (λ x. is_variable dialect x && has_code code (written_location dialect x.by.names)) names
 
 -- ---- instructions
 
@@ -126,7 +142,7 @@ value_operand (Typed v) = operands.Literal v
 -- an operand, its names in capital letters
 abbrev pub operand_in : Dialect → OperandText → Option Operand
 operand_in dialect (Constant t) = option_map value_operand (literal_in dialect t.text)
-operand_in dialect (Direct t) = option_map (λ loc. operands.Direct loc) (location_of t.text)
+operand_in dialect (Direct t) = option_map (λ loc. operands.Direct loc) (location_in dialect t.text)
 operand_in dialect (Named t) = Some (operands.Variable (capitals t.text))
 operand_in dialect (Field t f) = Some (operands.Field (capitals t.text) (capitals f.text))
 

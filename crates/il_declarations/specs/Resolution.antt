@@ -19,7 +19,7 @@ use Rattle.il_model.specs.Words.{upper, spells}
 pub use Rattle.il_model.specs.Words.{plain}
 pub use Rattle.il_model.specs.Row.{same_type}
 use Rattle.il_model.specs.Values.{ty_of, number_of, typed_value, bare_value}
-use Rattle.il_model.specs.Locations.{area_of}
+use Rattle.il_model.specs.Locations.{area_of, seen_as}
 use Rattle.il_model.specs.Typing.{loc_type, is_writable_area}
 use Rattle.il_model.specs.Codes.{is_type}
 use Rattle.il_reader.specs.Tokens.{Token}
@@ -59,14 +59,21 @@ type_by (Some type) kind = Some (declared.Elementary type)
 abbrev pub declared_type : Dialect → List ℕ → Option DeclaredType
 declared_type dialect word = type_by (type_of dialect word) (kind_of_name (capitals word))
 
--- a bit is BOOL and a word INT, and no instance has a location; an unknown type is a fault of its own
+-- a bit is BOOL, a word INT, a double word DINT, TIME or REAL, and no instance has a location; an unknown type is a
+-- fault of its own
 abbrev pub suits : Option DeclaredType → Loc → Bool
 suits None loc = true
-suits (Some (declared.Elementary type)) loc = is_type type (loc_type loc)
+suits (Some (declared.Elementary type)) loc = is_type type (loc_type (seen_as type loc))
 suits (Some (declared.Block kind)) loc = false
 
-abbrev pub variable : List ℕ → Ty → Option Loc → Value → Variable
-variable name type location initial = record { name = name; ty = type; location = location; initial = initial }
+-- the location of a variable of that type: a double word is of the same
+abbrev pub place_as : DeclaredType → Loc → Loc
+place_as (declared.Elementary type) loc = seen_as type loc
+place_as (declared.Block kind) loc = loc
+
+abbrev pub variable : Bool → List ℕ → Ty → Option Loc → Value → Variable
+variable retained name type location initial =
+    record { name = name; ty = type; location = location; initial = initial; retained = retained }
 
 -- a literal as a value of a type: a bare number that fits it, or a value of that type
 abbrev pub fitting : Ty → Option Literal → Option Value

@@ -2,14 +2,14 @@
 -- it.
 use Rattle.std.specs.Prelude.{◌≡◌, ◌⊎◌, ℕ, List, [], ◌∷◌, ◌++◌, length, map, Option, Some, None, is_none, Bool, true}
 use Rattle.std.specs.Prelude.{false, not, nat_le}
-use Rattle.std.specs.List.{flat_map, filter}
+use Rattle.std.specs.List.{flat_map, filter, list_any}
 use Rattle.il_model.specs.declared.dialect.Dialect.{Dialect}
-use Rattle.il_model.specs.Dialects.{literal_in}
+use Rattle.il_model.specs.Dialects.{literal_in, location_in}
 use Rattle.il_model.specs.declared.limits.TheConstants.{MOST_VARIABLES, MOST_INSTANCES, MOST_INSTRUCTIONS}
 use Rattle.il_model.specs.declared.program.Loc.{Loc}
 use Rattle.il_model.specs.Words.{is_reserved}
 use Rattle.il_model.specs.CodedOperands.{loc_code}
-use Rattle.il_model.specs.Locations.{location_of}
+use Rattle.il_model.specs.Locations.{parts_of}
 use Rattle.il_reader.specs.Tokens.{Token}
 use Rattle.il_reader.specs.Grammar.{OperandText, Constant, Direct, Named, Field, BehindText, Nothing, Given, Target}
 use Rattle.il_reader.specs.Grammar.{Opened, Called, arguments_of, OperationText, LineText, Labelled, Plain, Located}
@@ -21,7 +21,7 @@ use Rattle.il_declarations.specs.declared.fault.DeclKind.TheVariants as kinds
 use Rattle.il_declarations.specs.declared.fault.FaultAt.{FaultAt}
 use Rattle.il_declarations.specs.Resolution.{capitals, suits, written_value}
 use Rattle.il_declarations.specs.Declaring.{DeclaredName, names_in, declarations_of, names_of, type_in, is_instance}
-use Rattle.il_declarations.specs.Declaring.{is_variable, location_in, is_declared, names_variable, names_instance}
+use Rattle.il_declarations.specs.Declaring.{is_variable, written_location, is_declared, names_variable, names_instance}
 use Rattle.il_declarations.specs.Declaring.{is_occupied}
 
 -- in a list there is an item for which this holds, with those before it
@@ -48,10 +48,10 @@ abbrev pub is_no_place : Option DeclaredType → Option Loc → Bool
 is_no_place type None = true
 is_no_place type (Some loc) = not (suits type loc)
 
--- a variable before lies there
+-- a variable before lies at one of its bits or words
 abbrev pub is_overlapping : Dialect → List DeclaredName → Option Loc → Bool
 is_overlapping dialect before None = false
-is_overlapping dialect before (Some loc) = is_occupied dialect before (loc_code loc)
+is_overlapping dialect before (Some loc) = list_any (λ part. is_occupied dialect before (loc_code part)) (parts_of loc)
 
 -- an instance has no first value, an input neither, and else it has to fit; behind an unknown type nothing is asked
 abbrev pub is_bad_start : Dialect → Option Loc → Token → Option DeclaredType → Bool
@@ -83,7 +83,7 @@ asked_kind a = kinds.UnknownName
 abbrev pub is_missing : Dialect → List DeclaredName → Asked → Bool
 is_missing dialect names (AsVariable t) = not (names_variable dialect names (capitals t.text))
 is_missing dialect names (AsInstance t) = not (names_instance dialect names (capitals t.text))
-is_missing dialect names (AsLocation t) = is_none (location_of t.text)
+is_missing dialect names (AsLocation t) = is_none (location_in dialect t.text)
 is_missing dialect names (AsLiteral t) = is_none (literal_in dialect t.text)
 
 abbrev pub asked_by : OperandText → Asked
@@ -123,14 +123,14 @@ SomeName p left test = Somewhere (λ before x. (left ≡ x.name.left) × (test b
 abbrev pub SomePlace : Dialect → ProgramText → ℕ
     → (List DeclaredName → Option DeclaredType → Option Loc → Bool) → Type 0
 SomePlace dialect p left test = Somewhere
-    (λ before d. (t : Token) × (d.names ≡ Located t) × (left ≡ t.left)
-    × (test (flat_map names_in before) (type_in dialect d) (location_of t.text) ≡ true)) (declarations_of p)
+    (λ before d. (t : Token) × (d.text.names ≡ Located t) × (left ≡ t.left)
+    × (test (flat_map names_in before) (type_in dialect d.text) (location_in dialect t.text) ≡ true)) (declarations_of p)
 
 -- so one at its first value
 abbrev pub SomeStart : Dialect → ProgramText → ℕ → (Option Loc → Token → Option DeclaredType → Bool) → Type 0
 SomeStart dialect p left test = Somewhere
-    (λ before d. (t : Token) × (d.initial ≡ Some t) × (left ≡ t.left)
-    × (test (location_in d.names) t (type_in dialect d) ≡ true)) (declarations_of p)
+    (λ before d. (t : Token) × (d.text.initial ≡ Some t) × (left ≡ t.left)
+    × (test (written_location dialect d.text.names) t (type_in dialect d.text) ≡ true)) (declarations_of p)
 
 -- a line asks for what there isn't, and it is called this
 abbrev pub SomeMissing : Dialect → ProgramText → DeclKind → ℕ → Type 0
@@ -144,7 +144,7 @@ abbrev pub HasFaultOf : Dialect → ProgramText → DeclKind → ℕ → Type 0
 HasFaultOf dialect p kinds.Duplicate left = SomeName p left (λ before x. is_declared before (capitals x.name.text))
 -- A type word is neither a type nor the kind of a function block.
 HasFaultOf dialect p kinds.UnknownType left =
-    Somewhere (λ before d. (left ≡ d.ty.left) × (is_none (type_in dialect d) ≡ true)) (declarations_of p)
+    Somewhere (λ before d. (left ≡ d.text.ty.left) × (is_none (type_in dialect d.text) ≡ true)) (declarations_of p)
 -- A line names what isn't declared.
 HasFaultOf dialect p kinds.UnknownName left = SomeMissing dialect p kinds.UnknownName left
 -- A declaration puts its variable where none of its type can lie, or a line names a location that there isn't.

@@ -5,7 +5,7 @@ use Rattle.std.specs.Prelude.{◌≡◌, ℕ, List, [], ◌∷◌, ◌++◌, len
 use Rattle.std.specs.Prelude.{Err, Bool, false, ◌||◌, nat_le, if◌then◌else◌}
 use Rattle.il_model.specs.declared.dialect.Dialect.{Dialect}
 use Rattle.il_reader.specs.Grammar.{dialect_of}
-use Rattle.il_model.specs.Dialects.{literal_in}
+use Rattle.il_model.specs.Dialects.{literal_in, location_in}
 use Rattle.il_model.specs.declared.limits.TheConstants.{MOST_VARIABLES, MOST_INSTANCES, MOST_INSTRUCTIONS}
 use Rattle.il_model.specs.declared.value.Ty.{Ty}
 use Rattle.il_model.specs.declared.value.Ty.TheVariants as types
@@ -25,12 +25,11 @@ use Rattle.il_model.specs.Program.{Program, Declarations}
 use Rattle.il_model.specs.Resolved.{instance_in}
 use Rattle.il_model.specs.Words.{is_reserved}
 use Rattle.il_model.specs.Values.{zero_of}
-use Rattle.il_model.specs.CodedOperands.{loc_code}
-use Rattle.il_model.specs.Codes.{is_number, is_taken}
+use Rattle.il_model.specs.Codes.{is_number, is_overlapped}
 use Rattle.il_reader.specs.Tokens.{Token}
 use Rattle.il_reader.specs.Grammar.{OperandText, Constant, Direct, Named, Field, BehindText, Nothing, Given, Target}
 use Rattle.il_reader.specs.Grammar.{Opened, Called, ArgumentText, arguments_of, OperationText, LineText, Labelled}
-use Rattle.il_reader.specs.Grammar.{Plain, NamesText, Located, More, DeclarationText, ProgramText}
+use Rattle.il_reader.specs.Grammar.{Plain, NamesText, Located, More, BlockText, ProgramText}
 use Rattle.il_reader.specs.Texts.{place_at, SourceText}
 use Rattle.il_declarations.specs.declared.variables.Plan.{Plan}
 use Rattle.il_declarations.specs.declared.variables.DeclaredType.{DeclaredType}
@@ -41,9 +40,9 @@ use Rattle.il_declarations.specs.declared.fault.FaultAt.{FaultAt}
 use Rattle.il_declarations.specs.declared.fault.Failure.{Failure}
 use Rattle.il_declarations.specs.declared.fault.Failure.TheVariants as failures
 use Rattle.il_declarations.specs.declared.fault.Fault.{Fault}
-use Rattle.il_model.specs.Locations.{location_of}
-use Rattle.il_declarations.specs.Resolution.{capitals, declared_type, suits, variable, written_value, opens, with_opening}
-use Rattle.il_declarations.specs.Resolution.{plain}
+use Rattle.il_declarations.specs.Resolution.{capitals, declared_type, suits, place_as, variable, written_value, opens}
+use Rattle.il_declarations.specs.Resolution.{with_opening, plain}
+use Rattle.il_declarations.specs.Declaring.{BlockDeclaration, declarations_in}
 
 infixl 10 ◌>>=◌
 abbrev pub ◌>>=◌ : {A B : Type 0} → Result A FaultAt → (A → Result B FaultAt) → Result B FaultAt
@@ -98,12 +97,12 @@ new_name type known t =
 abbrev pub free_loc : Option DeclaredType → Declarations → Token → Option Loc → Result Loc FaultAt
 free_loc type known t None = refused kinds.BadLocation t
 free_loc type known t (Some loc) =
-    if suits type loc then (if is_taken known.variables (loc_code loc) then refused kinds.Overlap t else Ok loc)
+    if suits type loc then (if is_overlapped known.variables loc then refused kinds.Overlap t else Ok loc)
     else refused kinds.BadLocation t
 
--- a location of the type that none of the variables before has
-abbrev pub free_location : Option DeclaredType → Declarations → Token → Result Loc FaultAt
-free_location type known t = free_loc type known t (location_of t.text)
+-- a location of the type of which none of the variables before has a part
+abbrev pub free_location : Dialect → Option DeclaredType → Declarations → Token → Result Loc FaultAt
+free_location dialect type known t = free_loc type known t (location_in dialect t.text)
 
 abbrev pub found_type : Token → Option DeclaredType → Result DeclaredType FaultAt
 found_type t None = refused kinds.UnknownType t
@@ -137,10 +136,11 @@ planned_value dialect (Some (declared.Elementary type)) (Some t) =
     unwrap_or (written_value dialect type None t) (values.Bool false)
 planned_value dialect type initial = values.Bool false
 
-abbrev pub plan_of : Dialect → DeclarationText → Plan
+abbrev pub plan_of : Dialect → BlockDeclaration → Plan
 plan_of dialect d = record {
-  ty = declared_type dialect d.ty.text;
-  initial = planned_value dialect (declared_type dialect d.ty.text) d.initial;
+  ty = declared_type dialect d.text.ty.text;
+  initial = planned_value dialect (declared_type dialect d.text.ty.text) d.text.initial;
+  retained = d.retained;
 }
 
 -- ---- variables and instances
@@ -153,41 +153,43 @@ with_instance known x = record known { instances = known.instances ++ x ∷ [] }
 
 -- one name more, of a variable or of an instance
 abbrev pub with_declared : Plan → Declarations → List ℕ → Option Loc → Option DeclaredType → Declarations
-with_declared plan known name loc None = with_variable known (variable name types.Bool loc plan.initial)
+with_declared plan known name loc None =
+    with_variable known (variable plan.retained name types.Bool loc plan.initial)
 with_declared plan known name loc (Some (declared.Elementary type)) =
-    with_variable known (variable name type loc plan.initial)
+    with_variable known (variable plan.retained name type loc plan.initial)
 with_declared plan known name loc (Some (declared.Block kind)) =
-    with_instance known (record { name = name; kind = kind })
+    with_instance known (record { name = name; kind = kind; retained = plan.retained })
 
 -- a name of a list
 unfoldable pub declare_name : Plan → Declarations → Token → Result Declarations FaultAt
 declare_name plan known t = new_name plan.ty known t >>= λ name. Ok (with_declared plan known name None plan.ty)
 
-unfoldable pub declare_located : Dialect → Declarations → DeclarationText → Token → Result Declarations FaultAt
+unfoldable pub declare_located : Dialect → Declarations → BlockDeclaration → Token → Result Declarations FaultAt
 declare_located dialect known d location = do
-  name ← new_name (declared_type dialect d.ty.text) known d.name
-  loc ← free_location (declared_type dialect d.ty.text) known location
-  type ← known_type dialect d.ty
-  initial ← first_value dialect type (Some loc) d.initial
-  Ok (with_declared (record { ty = Some type; initial = initial }) known name (Some loc) (Some type))
+  name ← new_name (declared_type dialect d.text.ty.text) known d.text.name
+  loc ← free_location dialect (declared_type dialect d.text.ty.text) known location
+  type ← known_type dialect d.text.ty
+  initial ← first_value dialect type (Some loc) d.text.initial
+  Ok (with_declared (record { ty = Some type; initial = initial; retained = d.retained }) known name
+      (Some (place_as type loc)) (Some type))
 
-unfoldable pub declare_listed : Dialect → Declarations → DeclarationText → List Token → Result Declarations FaultAt
+unfoldable pub declare_listed : Dialect → Declarations → BlockDeclaration → List Token → Result Declarations FaultAt
 declare_listed dialect known d more = do
-  first ← declare_name (plan_of dialect d) known d.name
+  first ← declare_name (plan_of dialect d) known d.text.name
   named ← each (declare_name (plan_of dialect d)) first more
-  type ← known_type dialect d.ty
-  initial ← first_value dialect type None d.initial
+  type ← known_type dialect d.text.ty
+  initial ← first_value dialect type None d.text.initial
   Ok named
 
-abbrev pub declare_by : Dialect → Declarations → DeclarationText → NamesText → Result Declarations FaultAt
+abbrev pub declare_by : Dialect → Declarations → BlockDeclaration → NamesText → Result Declarations FaultAt
 declare_by dialect known d (Located location) = declare_located dialect known d location
 declare_by dialect known d (More more) = declare_listed dialect known d more
 
-abbrev pub declare : Dialect → Declarations → DeclarationText → Result Declarations FaultAt
-declare dialect known d = declare_by dialect known d d.names
+abbrev pub declare : Dialect → Declarations → BlockDeclaration → Result Declarations FaultAt
+declare dialect known d = declare_by dialect known d d.text.names
 
-abbrev pub declare_block : Dialect → Declarations → List DeclarationText → Result Declarations FaultAt
-declare_block dialect known ds = each (declare dialect) known ds
+abbrev pub declare_block : Dialect → Declarations → BlockText → Result Declarations FaultAt
+declare_block dialect known b = each (declare dialect) known (declarations_in b)
 
 -- ---- instructions
 
@@ -203,7 +205,7 @@ constant t (Some (Typed v)) = Ok (operands.Literal v)
 
 abbrev pub operand_of : Dialect → Declarations → OperandText → Result Operand FaultAt
 operand_of dialect known (Constant t) = constant t (literal_in dialect t.text)
-operand_of dialect known (Direct t) = direct t (location_of t.text)
+operand_of dialect known (Direct t) = direct t (location_in dialect t.text)
 operand_of dialect known (Named t) = if has_name known (capitals t.text) then Ok (operands.Variable (capitals t.text))
     else refused kinds.UnknownName t
 operand_of dialect known (Field t f) = if has_instance known (capitals t.text)

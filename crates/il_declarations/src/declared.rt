@@ -3,7 +3,7 @@
 ghost use Rattle.std.specs.Prelude.{◌≡◌, OnOk};
 ghost use Rattle.il_declarations.specs.DeclaredTables.{AddsName};
 
-use il_model::{Instance, Loc, Name, Variable, put_code};
+use il_model::{Instance, Loc, Name, Variable, is_overlapping, put_code};
 use std::alloc::{AllocError, Global};
 use std::collections::BTreeSet;
 use std::marker::Model;
@@ -43,8 +43,7 @@ fn put_name(alloc: Global, names: &mut BTreeSet<Vec<u8>>, name: &Name) -> Result
 
 impl Declared {
     ghost use Rattle.std.specs.Prelude.{length, IfOk, OnErr};
-    ghost use Rattle.il_model.specs.CodedOperands.{loc_code};
-    ghost use Rattle.il_model.specs.Codes.{is_taken};
+    ghost use Rattle.il_model.specs.Codes.{is_overlapped};
     ghost use Rattle.il_declarations.specs.Walk.{nothing, has_name, has_instance, with_variable, with_instance};
 
     /// Nothing.
@@ -88,11 +87,11 @@ impl Declared {
         self.instance_names.contains(name.bytes())
     }
 
-    /// Whether a variable has the location.
-    pub fn is_taken(&self, loc: Loc) -> bool
-        ensures { result ≡ is_taken self.now.variables (loc_code loc) }
+    /// Whether a variable lies at a part of the location.
+    pub fn is_overlapped(&self, loc: Loc) -> bool
+        ensures { result ≡ is_overlapped self.now.variables loc }
     {
-        self.codes.contains(&loc.code())
+        is_overlapping(&self.codes, loc)
     }
 
     fn with_variable(self, alloc: Global, v: Variable) -> Result<Declared, AllocError>

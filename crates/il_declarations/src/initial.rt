@@ -26,10 +26,10 @@ fn fitting(ty: Ty, given: Option<Literal>) -> Option<Value>
 fn is_input(location: Option<Loc>) -> bool
     ensures { result ≡ is_input location }
 {
-    matches!(
-        location,
-        Some(Loc::Bit(Area::Input, _)) | Some(Loc::Word(Area::Input, _))
-    )
+    match location {
+        Some(loc) => matches!(loc.area(), Area::Input),
+        None => false,
+    }
 }
 
 fn written_value(dialect: Dialect, ty: Ty, location: Option<Loc>, t: Lexeme) -> Option<Value>

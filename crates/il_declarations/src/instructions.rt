@@ -13,7 +13,7 @@ use crate::fault::{DeclKind, Failure, FaultAt};
 use crate::variables::{capital_name, refused};
 use il_model::{
     Argument, Arguments, Dialect, Instr, Literal, MOST_INSTRUCTIONS, Modifier, Name, Op, Operand,
-    is_reserved, location_from,
+    is_reserved,
 };
 use il_reader::{Behind, Call, Lexeme, Line, Operation};
 use std::alloc::Global;
@@ -71,7 +71,7 @@ fn given_operand(
 {
     match written {
         il_reader::Operand::Constant(t) => constant(t, dialect.literal(t.text)),
-        il_reader::Operand::Direct(t) => match location_from(t.text) {
+        il_reader::Operand::Direct(t) => match dialect.location(t.text) {
             Some(loc) => Ok(Operand::Direct(loc)),
             None => Err(refused(DeclKind::BadLocation, t)),
         },

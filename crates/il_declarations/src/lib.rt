@@ -10,8 +10,9 @@
 //!
 //! Proved: Ok gives the program that the source declares (`specs/Declaring`), exactly where it has no fault; else what
 //! is told is the first of all faults that it has (`specs/TextFaults`, `specs/FirstFault`), with its place. The
-//! program's names are lawful and distinct, its locations distinct and of their type, its first values lawful. REAL and
-//! its literals are known in extended texts alone (`Source::dialect`).
+//! program's names are lawful and distinct, its locations of their type, no two of which share a bit or a word, and its
+//! first values lawful. REAL, its literals and double words are known in extended texts alone (`Source::dialect`).
+//! What a block declares is retained exactly where its qualifier is RETAIN.
 //!
 //! Only tested: nothing; `texts.rows` of `tests_rows` has sources with their faults.
 #![tactic(auto)]

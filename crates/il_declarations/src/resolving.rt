@@ -2,7 +2,7 @@
 
 ghost use Rattle.std.specs.Prelude.{◌≡◌, map, IfOk};
 ghost use Rattle.il_model.specs.Declarable.{IsDeclared};
-ghost use Rattle.il_reader.specs.Grammar.{declarations, dialect_of};
+ghost use Rattle.il_reader.specs.Grammar.{block_text, dialect_of};
 ghost use Rattle.il_declarations.specs.Resolution.{Answers};
 ghost use Rattle.il_declarations.specs.Walk.{Gives, nothing, declare_block, program_at, resolution_of, each};
 ghost use Rattle.il_declarations.specs.Declaring.{IsProgramOf};
@@ -11,22 +11,17 @@ ghost use Rattle.il_declarations.specs.FirstFault.{HasNoFault, IsGiven, TellsFir
 use crate::declared::Declared;
 use crate::fault::{DeclError, Failure, Fault};
 use crate::instructions::instructions;
-use crate::variables::declare_each;
+use crate::variables::declare_block;
 use il_model::{Dialect, Program};
-use il_reader::{Declaration, Source};
+use il_reader::{Block, Source};
 use std::alloc::Global;
 
-fn declared(
-    dialect: Dialect,
-    alloc: Global,
-    blocks: &[Vec<Declaration>],
-) -> Result<Declared, Failure>
-    ensures { Gives (λ d. d) result
-        (each (declare_block dialect) nothing (map (λ ds. declarations ds.items) blocks.now)) }
+fn declared(dialect: Dialect, alloc: Global, blocks: &[Block]) -> Result<Declared, Failure>
+    ensures { Gives (λ d. d) result (each (declare_block dialect) nothing (map block_text blocks.now)) }
 {
     let mut known = Declared::new(alloc);
     for block in blocks {
-        declare_each(dialect, alloc, &mut known, block.as_slice())?;
+        declare_block(dialect, alloc, &mut known, block)?;
     }
     Ok(known)
 }
@@ -68,9 +63,9 @@ fn walked(alloc: Global, source: &Source) -> Result<Program, DeclError>
 /// the first fault in the text with its line and column; of two at one place the one with the least number. Or memory
 /// ran out.
 pub fn resolve(alloc: Global, source: Source<'_>) -> Result<Program, DeclError>
-    // Each part of the program has a lawful form: names are lawful and distinct, so are locations; values are in their
-    // ranges; an operator has letters and an operand that it takes; an operand, of a call's arguments too, is a
-    // variable or an instance that is declared, a location or a value.
+    // Each part of the program has a lawful form: names are lawful and distinct; locations are there, and no two share
+    // a bit or a word; values are in their ranges; an operator has letters and an operand that it takes; an operand, of
+    // a call's arguments too, is a variable or an instance that is declared, a location or a value.
     ensures text { IfOk result (λ p. IsDeclared p) }
     // The program is what the text declares, and the text has no fault.
     ensures found { IfOk result (λ p. IsProgramOf (dialect_of source.entry.text) source.entry.says p

@@ -2,19 +2,21 @@
 
 ghost use Rattle.std.specs.Prelude.{◌≡◌, IfOk, OnOk, map};
 ghost use Rattle.il_reader.specs.Tokens.{token};
-ghost use Rattle.il_reader.specs.Grammar.{declaration, declarations};
-ghost use Rattle.il_declarations.specs.Resolution.{capitals, new_type, type_of, declared_type, suits, variable};
+ghost use Rattle.il_reader.specs.Grammar.{declaration, block_text};
+ghost use Rattle.il_declarations.specs.Resolution.{capitals, new_type, type_of, declared_type, suits, place_as};
+ghost use Rattle.il_declarations.specs.Resolution.{variable};
 ghost use Rattle.il_declarations.specs.Walk.{Gives, is_full, new_name, free_location, found_type, plan_of, with_declared};
 ghost use Rattle.il_declarations.specs.Walk.{declare_name, declare_located, declare_listed, declare, declare_block, each};
+ghost use Rattle.il_declarations.specs.Declaring.{in_block};
 
 use crate::declared::Declared;
 use crate::fault::{DeclKind, Failure, FaultAt};
 use crate::initial::{first_value, planned_value};
 use il_model::{
     BlockKind, Dialect, Instance, Loc, MOST_INSTANCES, MOST_VARIABLES, Name, Ty, Value, Variable,
-    capital, is_reserved, is_spelled, loc_type, location_from,
+    capital, is_reserved, is_spelled, is_type, loc_type, seen_as,
 };
-use il_reader::{Declaration, Lexeme, Names};
+use il_reader::{Block, Declaration, Lexeme, Names};
 use std::alloc::{AllocError, Global};
 
 /// What a type word stands for.
@@ -24,11 +26,12 @@ pub enum DeclaredType {
     Block(BlockKind),
 }
 
-/// What the names of a list are: their type and their first value, where both are good.
+/// What the names of a list are: their type and their first value, where both are good, and whether they're retained.
 #[derive(Clone, Copy)]
 pub struct Plan {
     pub ty: Option<DeclaredType>,
     pub initial: Value,
+    pub retained: bool,
 }
 
 /// The fault of a token.
@@ -127,22 +130,36 @@ fn location_suits(ty: Option<DeclaredType>, loc: Loc) -> bool
     ensures { result ≡ suits ty loc }
 {
     match ty {
-        Some(DeclaredType::Elementary(Ty::Bool)) => matches!(loc_type(loc), Some(Ty::Bool)),
-        Some(DeclaredType::Elementary(Ty::Int)) => matches!(loc_type(loc), Some(Ty::Int)),
-        Some(_) => false,
+        Some(DeclaredType::Elementary(ty)) => is_type(ty, loc_type(seen_as(ty, loc))),
+        Some(DeclaredType::Block(_)) => false,
         None => true,
     }
 }
 
-fn unoccupied(ty: Option<DeclaredType>, known: &Declared, t: Lexeme) -> Result<Loc, Failure>
-    ensures { Gives (λ loc. loc) result (free_location ty known.now (token t.entry)) }
+/// The location of a variable of that type.
+fn place_as(ty: DeclaredType, loc: Loc) -> Loc
+    ensures { result ≡ place_as ty loc }
 {
-    match location_from(t.text) {
+    match ty {
+        DeclaredType::Elementary(ty) => seen_as(ty, loc),
+        DeclaredType::Block(_) => loc,
+    }
+}
+
+fn unoccupied(
+    dialect: Dialect,
+    ty: Option<DeclaredType>,
+    known: &Declared,
+    t: Lexeme,
+) -> Result<Loc, Failure>
+    ensures { Gives (λ loc. loc) result (free_location dialect ty known.now (token t.entry)) }
+{
+    match dialect.location(t.text) {
         None => Err(refused(DeclKind::BadLocation, t)),
         Some(loc) => {
             if !location_suits(ty, loc) {
                 Err(refused(DeclKind::BadLocation, t))
-            } else if known.is_taken(loc) {
+            } else if known.is_overlapped(loc) {
                 Err(refused(DeclKind::Overlap, t))
             } else {
                 Ok(loc)
@@ -151,13 +168,14 @@ fn unoccupied(ty: Option<DeclaredType>, known: &Declared, t: Lexeme) -> Result<L
     }
 }
 
-fn planned(dialect: Dialect, ty: Option<DeclaredType>, d: &Declaration) -> Plan
+fn planned(dialect: Dialect, ty: Option<DeclaredType>, retained: bool, d: &Declaration) -> Plan
     requires { ty ≡ declared_type dialect (declaration d.now).ty.text }
-    ensures { result ≡ plan_of dialect (declaration d.now) }
+    ensures { result ≡ plan_of dialect (in_block retained (declaration d.now)) }
 {
     Plan {
         ty,
         initial: planned_value(dialect, ty, d.initial),
+        retained,
     }
 }
 
@@ -167,14 +185,15 @@ fn known_type(ty: Option<DeclaredType>, t: Lexeme) -> Result<DeclaredType, Failu
     ty.ok_or(refused(DeclKind::UnknownType, t))
 }
 
-fn fresh(name: Name, ty: Ty, location: Option<Loc>, initial: Value) -> Variable
-    ensures { result ≡ variable name ty location initial }
+fn fresh(plan: Plan, name: Name, ty: Ty, location: Option<Loc>) -> Variable
+    ensures { result ≡ variable plan.retained name ty location plan.initial }
 {
     Variable {
         name,
         ty,
         location,
-        initial,
+        initial: plan.initial,
+        retained: plan.retained,
     }
 }
 
@@ -189,10 +208,20 @@ fn push_declared(
 {
     match plan.ty {
         Some(DeclaredType::Elementary(ty)) => {
-            known.push_variable(alloc, fresh(name, ty, location, plan.initial))
+            known.push_variable(alloc, fresh(plan, name, ty, location))
         }
-        Some(DeclaredType::Block(kind)) => known.push_instance(alloc, Instance { name, kind }),
-        None => known.push_variable(alloc, fresh(name, Ty::Bool, location, plan.initial)),
+        Some(DeclaredType::Block(kind)) => {
+            let retained = plan.retained;
+            known.push_instance(
+                alloc,
+                Instance {
+                    name,
+                    kind,
+                    retained,
+                },
+            )
+        }
+        None => known.push_variable(alloc, fresh(plan, name, Ty::Bool, location)),
     }
 }
 
@@ -223,22 +252,25 @@ fn push_names(
 fn declare_at(
     dialect: Dialect,
     alloc: Global,
+    retained: bool,
     known: &mut Declared,
     d: &Declaration,
     at: Lexeme,
 ) -> Result<(), Failure>
-    ensures { Gives (λ u. known.new) result (declare_located dialect known.old (declaration d.now) (token at.entry)) }
+    ensures { Gives (λ u. known.new) result
+        (declare_located dialect known.old (in_block retained (declaration d.now)) (token at.entry)) }
 {
     let written = declared_type(dialect, alloc, d.ty.text)?;
     let name = lawful_name(alloc, written, known, d.name)?;
-    let loc = unoccupied(written, known, at)?;
+    let loc = unoccupied(dialect, written, known, at)?;
     let ty = known_type(written, d.ty)?;
     let initial = first_value(dialect, ty, Some(loc), d.initial)?;
     let plan = Plan {
         ty: Some(ty),
         initial,
+        retained,
     };
-    push_declared(alloc, plan, known, name, Some(loc))?;
+    push_declared(alloc, plan, known, name, Some(place_as(ty, loc)))?;
     Ok(())
 }
 
@@ -246,15 +278,16 @@ fn declare_at(
 fn declare_names(
     dialect: Dialect,
     alloc: Global,
+    retained: bool,
     known: &mut Declared,
     d: &Declaration,
     more: &[Lexeme],
 ) -> Result<(), Failure>
     ensures { Gives (λ u. known.new) result
-        (declare_listed dialect known.old (declaration d.now) (map token more.now)) }
+        (declare_listed dialect known.old (in_block retained (declaration d.now)) (map token more.now)) }
 {
     let written = declared_type(dialect, alloc, d.ty.text)?;
-    let plan = planned(dialect, written, d);
+    let plan = planned(dialect, written, retained, d);
     push_name(alloc, plan, known, d.name)?;
     push_names(alloc, plan, known, more)?;
     let ty = known_type(written, d.ty)?;
@@ -265,28 +298,49 @@ fn declare_names(
 fn declare_one(
     dialect: Dialect,
     alloc: Global,
+    retained: bool,
     known: &mut Declared,
     d: &Declaration,
 ) -> Result<(), Failure>
-    ensures { Gives (λ u. known.new) result (declare dialect known.old (declaration d.now)) }
+    ensures { Gives (λ u. known.new) result (declare dialect known.old (in_block retained (declaration d.now))) }
 {
     match &d.names {
-        Names::Located(at) => declare_at(dialect, alloc, known, d, *at),
-        Names::More(more) => declare_names(dialect, alloc, known, d, more.as_slice()),
+        Names::Located(at) => declare_at(dialect, alloc, retained, known, d, *at),
+        Names::More(more) => declare_names(dialect, alloc, retained, known, d, more.as_slice()),
     }
 }
 
+fn declare_each(
+    dialect: Dialect,
+    alloc: Global,
+    retained: bool,
+    known: &mut Declared,
+    declarations: &[Declaration],
+) -> Result<(), Failure>
+    ensures { Gives (λ u. known.new) result
+        (each (declare dialect) known.old (map (λ d. in_block retained (declaration d)) declarations.now)) }
+{
+    for d in declarations {
+        declare_one(dialect, alloc, retained, known, d)?;
+    }
+    Ok(())
+}
+
 /// The variables and instances of a block, behind those before it.
-pub fn declare_each(
+pub fn declare_block(
     dialect: Dialect,
     alloc: Global,
     known: &mut Declared,
-    block: &[Declaration],
+    block: &Block,
 ) -> Result<(), Failure>
-    ensures { Gives (λ u. known.new) result (declare_block dialect known.old (declarations block.now)) }
+    ensures { Gives (λ u. known.new) result (declare_block dialect known.old (block_text block.now)) }
 {
-    for d in block {
-        declare_one(dialect, alloc, known, d)?;
-    }
-    Ok(())
+    let retained = block.is_retained();
+    declare_each(
+        dialect,
+        alloc,
+        retained,
+        known,
+        block.declarations.as_slice(),
+    )
 }

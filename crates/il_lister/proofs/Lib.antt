@@ -1,5 +1,6 @@
 pub mod Cases
 pub mod Numbers
 pub mod Parts
+pub mod Sections
 pub mod Rows
 pub mod Versions

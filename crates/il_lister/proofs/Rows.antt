@@ -26,7 +26,7 @@ output field operand = record { field = field; side = sides.Output; operand = op
 abbrev counting : Program
 counting = record {
   variables = [];
-  instances = record { name = codes "C"; kind = kinds.Ctu } ∷ [];
+  instances = record { name = codes "C"; kind = kinds.Ctu; retained = false } ∷ [];
   code = record {
     label = None;
     op = ops.Cal;
@@ -42,7 +42,7 @@ counts = refl
 
 abbrev copying : Program
 copying = record {
-  variables = record { name = codes "X"; ty = types.Bool; location = Some (Bit areas.Input 0); initial = values.Bool false } ∷ record { name = codes "Y"; ty = types.Int; location = None; initial = values.Int (negsuc 4) } ∷ [];
+  variables = record { name = codes "X"; ty = types.Bool; location = Some (Bit areas.Input 0); initial = values.Bool false; retained = false } ∷ record { name = codes "Y"; ty = types.Int; location = None; initial = values.Int (negsuc 4); retained = false } ∷ [];
   instances = [];
   code = record { label = None; op = ops.Ld; modifier = plain; operand = operands.Variable (codes "X"); arguments = [] }
       ∷ record { label = Some (codes "L1"); op = ops.Empty; modifier = plain; operand = operands.Absent; arguments = [] }

@@ -1,6 +1,6 @@
 -- The listing of a program: its one text, all in capital letters but ms. Each line ends with LF.
 use Rattle.std.specs.Prelude.{ℕ, suc, ◌+◌, ◌==◌, map, ◌/◌, ◌%◌, ℤ, pos, negsuc, Bool, true, false, List, [], ◌∷◌, ◌++◌}
-use Rattle.std.specs.Prelude.{Option, Some, None, if◌then◌else◌, codes}
+use Rattle.std.specs.Prelude.{Option, Some, None, if◌then◌else◌, codes, ◌||◌}
 use Rattle.std.specs.List.{flat_map}
 use Rattle.std.specs.Int.Digits.{digits_of}
 use Rattle.il_real.specs.Texts.{real_text}
@@ -16,7 +16,7 @@ use Rattle.il_model.specs.declared.op.Modifier.{Modifier}
 use Rattle.il_model.specs.declared.program.Area.{Area}
 use Rattle.il_model.specs.declared.program.Area.TheVariants as areas
 use Rattle.il_model.specs.declared.program.Loc.{Loc}
-use Rattle.il_model.specs.declared.program.Loc.TheVariants.{Bit, Word}
+use Rattle.il_model.specs.declared.program.Loc.TheVariants.{Bit, Word, Double}
 use Rattle.il_model.specs.declared.program.Variable.{Variable}
 use Rattle.il_model.specs.declared.program.Instance.{Instance}
 use Rattle.il_model.specs.declared.program.Operand.{Operand}
@@ -27,6 +27,7 @@ use Rattle.il_model.specs.declared.program.Argument.{Argument}
 use Rattle.il_model.specs.declared.program.Instr.{Instr}
 use Rattle.il_model.specs.Values.{number_of}
 use Rattle.il_model.specs.Operators.{is_zero}
+use Rattle.il_model.specs.Words.{spells}
 use Rattle.il_model.specs.Kinds.{kind_name}
 use Rattle.il_model.specs.Codes.{is_empty}
 use Rattle.il_model.specs.Program.{Program}
@@ -61,11 +62,12 @@ area_letter areas.Input = codes "I"
 area_letter areas.Output = codes "Q"
 area_letter areas.Memory = codes "M"
 
--- %IX0.3, %QW7
+-- %IX0.3, %QW7, %MD4
 abbrev pub location_text : Loc → List ℕ
 location_text (Bit area n) = codes "%"
     ++ (area_letter area ++ (codes "X" ++ (decimal (n / 8) ++ (codes "." ++ decimal (n % 8)))))
 location_text (Word area n) = codes "%" ++ (area_letter area ++ (codes "W" ++ decimal n))
+location_text (Double area n t) = codes "%" ++ (area_letter area ++ (codes "D" ++ decimal n))
 
 -- ---- declarations
 
@@ -195,15 +197,69 @@ label_text op (Some name) = name ++ (if is_empty op then codes ":" else codes ":
 abbrev pub line_text : Instr → List ℕ
 line_text line = label_text line.op line.label ++ (operation_text line ++ codes "\n")
 
+-- ---- sections of declarations: one for each run of those that are retained, or aren't
+
+-- a name that would be taken for a qualifier behind VAR_GLOBAL
+abbrev pub is_qualifier : List ℕ → Bool
+is_qualifier name = spells (codes "RETAIN") name || spells (codes "NON_RETAIN") name
+
+-- before a declaration with this name, which is retained or isn't; only where else its name would be taken for a
+-- qualifier is NON_RETAIN listed
+abbrev pub qualifier_text : Bool → List ℕ → List ℕ
+qualifier_text true name = codes " RETAIN"
+qualifier_text false name = if is_qualifier name then codes " NON_RETAIN" else []
+
+abbrev pub section_text : Bool → List ℕ → List ℕ
+section_text retained name = codes "VAR_GLOBAL" ++ (qualifier_text retained name ++ codes "\n")
+
+-- where one is retained and the one before it isn't, or the other way round, a section begins
+abbrev pub turn_text : Bool → Bool → List ℕ → List ℕ
+turn_text true true name = []
+turn_text false false name = []
+turn_text before retained name = codes "END_VAR\n" ++ section_text retained name
+
+-- variables, and instances, behind a declaration that is retained or isn't
+abbrev pub variables_text : Bool → List Variable → List ℕ
+variables_text before [] = []
+variables_text before (v ∷ vs) = turn_text before v.retained v.name
+    ++ (variable_text v ++ variables_text v.retained vs)
+
+abbrev pub instances_text : Bool → List Instance → List ℕ
+instances_text before [] = []
+instances_text before (x ∷ xs) = turn_text before x.retained x.name
+    ++ (instance_text x ++ instances_text x.retained xs)
+
+-- whether the last of these is retained, or the declaration before them where there are none
+abbrev pub last_retained : Bool → List Variable → Bool
+last_retained before [] = before
+last_retained before (v ∷ vs) = last_retained v.retained vs
+
+-- the first declaration: whether it's retained, and its name
+abbrev pub first_retained : List Variable → List Instance → Bool
+first_retained (v ∷ vs) xs = v.retained
+first_retained [] (x ∷ xs) = x.retained
+first_retained [] [] = false
+
+abbrev pub first_name : List Variable → List Instance → List ℕ
+first_name (v ∷ vs) xs = v.name
+first_name [] (x ∷ xs) = x.name
+first_name [] [] = []
+
 -- ---- the whole
 
--- a program of the third version is listed as an extended text, which begins with VAR_GLOBAL
-abbrev pub opening : Version → List ℕ
-opening versions.One = codes "VAR\n"
-opening versions.Two = codes "VAR\n"
-opening versions.Three = codes "VAR_GLOBAL\n"
+abbrev pub is_third : Version → Bool
+is_third versions.Three = true
+is_third version = false
+
+-- a program of the third version is listed as an extended text, which begins with VAR_GLOBAL; of every other nothing is
+-- retained
+abbrev pub opening : Version → Bool → List ℕ → List ℕ
+opening version retained name = if is_third version then section_text retained name else codes "VAR\n"
 
 abbrev pub listing : Program → List ℕ
-listing Q = opening (version_of Q)
-    ++ (flat_map variable_text Q.variables
-    ++ (flat_map instance_text Q.instances ++ (codes "END_VAR\n" ++ flat_map line_text Q.code)))
+listing Q =
+    let first = first_retained Q.variables Q.instances in
+    opening (version_of Q) first (first_name Q.variables Q.instances)
+    ++ (variables_text first Q.variables
+    ++ (instances_text (last_retained first Q.variables) Q.instances
+    ++ (codes "END_VAR\n" ++ flat_map line_text Q.code)))

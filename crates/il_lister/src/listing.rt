@@ -4,42 +4,86 @@ ghost use Rattle.std.specs.Prelude.{◌≡◌, ◌≤◌, ℕ, OnErr, OnOk, take
 ghost use Rattle.std.specs.Io.KnownBytes.{Appends};
 ghost use Rattle.io_model.specs.Streams.{Failed};
 ghost use Rattle.il_model.specs.Image.{version_of};
-ghost use Rattle.il_lister.specs.Listing.{opening, listing};
+ghost use Rattle.il_lister.specs.Listing.{first_retained, first_name, is_third, opening, listing};
 ghost use Rattle.il_lister.specs.Writing.{Writes};
 
-use crate::declaration::{write_instances, write_variables};
+use crate::declaration::{last_retained, write_instances, write_section, write_variables};
 use crate::fault::ListFault;
 use crate::instruction::write_lines;
 use crate::writing::write_text;
 use il_loader::Image;
+use il_model::{Instance, Variable};
 use io_model::CountedWrite;
 
-/// What stands before the declarations: VAR, or VAR_GLOBAL where the image is of the third version.
-#[tactic(auto, using(crate::proofs::Versions::long_enough, crate::proofs::Versions::opening_is))]
-fn opening(image: &Image) -> &'static [u8]
-    ensures { result.now ≡ opening (version_of image.now) }
+/// Whether the first declaration is retained.
+fn first_retained(variables: &[Variable], instances: &[Instance]) -> bool
+    ensures { result ≡ first_retained variables.now instances.now }
+{
+    if let [variable, ..] = variables {
+        variable.retained
+    } else if let [instance, ..] = instances {
+        instance.retained
+    } else {
+        false
+    }
+}
+
+/// The name of the first declaration; it is empty where there is none.
+fn first_name<'a>(variables: &'a [Variable], instances: &'a [Instance]) -> &'a [u8]
+    ensures { result.now ≡ first_name variables.entry.now instances.entry.now }
+{
+    if let [variable, ..] = variables {
+        variable.name.bytes()
+    } else if let [instance, ..] = instances {
+        instance.name.bytes()
+    } else {
+        &[]
+    }
+}
+
+/// Whether the image is of the third version.
+#[tactic(auto, using(crate::proofs::Versions::long_enough, crate::proofs::Versions::third_is))]
+fn is_third(image: &Image) -> bool
+    ensures { result ≡ is_third (version_of image.now) }
 {
     let bytes = image.bytes();
-    if bytes[5] == 3 {
-        b"VAR_GLOBAL\n"
+    bytes[5] == 3
+}
+
+/// What stands before the declarations, of which the first is retained or isn't, and has this name: VAR, or a section's
+/// opening where the image is of the third version.
+fn write_opening<W: CountedWrite>(
+    writer: &mut W,
+    image: &Image,
+    retained: bool,
+    name: &[u8],
+) -> Result<(), ListFault>
+    ensures { Writes W.CountedWrite (opening (version_of image.now) retained name.now) writer.old writer.new result }
+{
+    if is_third(image) {
+        write_section(writer, retained, name)
     } else {
-        b"VAR\n"
+        write_text(writer, b"VAR\n")
     }
 }
 
 fn write_listing<W: CountedWrite>(writer: &mut W, image: &Image) -> Result<(), ListFault>
     ensures { Writes W.CountedWrite (listing image.now) writer.old writer.new result }
 {
-    write_text(writer, opening(image))?;
-    write_variables(writer, image.variables())?;
-    write_instances(writer, image.instances())?;
+    let variables = image.variables();
+    let instances = image.instances();
+    let first = first_retained(variables, instances);
+    write_opening(writer, image, first, first_name(variables, instances))?;
+    write_variables(writer, first, variables)?;
+    write_instances(writer, last_retained(first, variables), instances)?;
     write_text(writer, b"END_VAR\n")?;
     write_lines(writer, image.code())
 }
 
 /// Writes the listing of an image: its program in Instruction List (IEC 61131-3:2003, 3.2), in capital letters but for
-/// the unit ms, each line ended by LF; it's an extended text where the image is of the third version. It answers Device
-/// only where the writer failed in this call; then a prefix of the listing went out.
+/// the unit ms, each line ended by LF; it's an extended text where the image is of the third version, with a section
+/// for each run of declarations that are retained. It answers Device only where the writer failed in this call; then a
+/// prefix of the listing went out.
 pub fn list<W: CountedWrite>(image: &Image, writer: &mut W) -> Result<(), ListFault>
     ensures ok { OnOk result (Appends (W.held writer.old) (W.held writer.new) (listing image.now)) }
     ensures err { OnErr result

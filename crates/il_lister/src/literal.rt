@@ -40,7 +40,7 @@ pub fn write_literal<W: CountedWrite>(writer: &mut W, value: Value) -> Result<()
     }
 }
 
-/// A location, as %IX0.3 or %QW7 (IEC 61131-3:2003, 2.4.1.1).
+/// A location, as %IX0.3, %QW7 or %MD4 (IEC 61131-3:2003, 2.4.1.1).
 pub fn write_location<W: CountedWrite>(writer: &mut W, location: Loc) -> Result<(), ListFault>
     ensures { Writes W.CountedWrite (location_text location) writer.old writer.new result }
 {
@@ -57,6 +57,12 @@ pub fn write_location<W: CountedWrite>(writer: &mut W, location: Loc) -> Result<
             write_text(writer, b"%")?;
             write_area(writer, area)?;
             write_text(writer, b"W")?;
+            write_decimal(writer, number)
+        }
+        Loc::Double(area, number, _) => {
+            write_text(writer, b"%")?;
+            write_area(writer, area)?;
+            write_text(writer, b"D")?;
             write_decimal(writer, number)
         }
     }

@@ -14,17 +14,18 @@ use Rattle.il_reader.specs.declared.lexeme.Sign.TheVariants as signs
 use Rattle.il_reader.specs.declared.lexeme.Class.{Class}
 use Rattle.il_reader.specs.declared.lexeme.Class.TheVariants as classes
 use Rattle.il_model.specs.declared.program.Side.{Side}
+use Rattle.il_reader.specs.declared.contents.Qualifier.TheVariants as qualifiers
 use Rattle.il_reader.specs.declared.contents.Operator.{Operator}
 use Rattle.il_reader.specs.declared.operations.Form.{Form}
 use Rattle.il_reader.specs.declared.operations.Form.TheVariants as forms
 use Rattle.il_reader.specs.Tokens.{Token, goes_on, tokens_of}
 use Rattle.il_reader.specs.Front.{is_class_of, is_end_class, no_token, is_sign, is_end, is_word_token, first, others, fault_at, skip_breaks}
 use Rattle.il_reader.specs.Reading.{◌>>=◌, Reading, expect, keyword, pair, led, closed, choice, mapped, past, mark, stand, many, meant}
-use Rattle.il_reader.specs.Grammar.{block_word, begins_block, is_variable, is_constant, before_dot, Direct, Constant, OperandText, ArgumentText, ends_arguments, before_close, BehindText, Given, Target, Opened, Called, OperationText, form_of, operator_of, is_line_stop, operator_from, LineText, Plain, is_label, Located, More, DeclarationText, ends_names, ends_block, ends_blocks, ProgramText, ends_lines, ends_named, begins_program}
-use Rattle.il_reader.specs.Walk.{variable_at, constant_at, named, field_at, inner_field_at, lone_at, operand_at, inner_operand_at, side_at, an_output, an_input, an_argument, argument_at, next_argument_at, together, inside_at, arguments_at, a_call, call_at, operator_at, optional_operand_at, nested_at, either_at, behind_at, operation_at, optional_operation_at, labelled, labelled_at, plain_at, either_line_at, line_at, name_at, names_at, initial_at, declared, declaration_at, block_at, end_at, finish_at, named_program, bare_program, named_at, bare_at, program_at}
+use Rattle.il_reader.specs.Grammar.{is_no_qualifier, no_qualifier, BlockText, block_word, begins_block, is_variable, is_constant, before_dot, Direct, Constant, OperandText, ArgumentText, ends_arguments, before_close, BehindText, Given, Target, Opened, Called, OperationText, form_of, operator_of, is_line_stop, operator_from, LineText, Plain, is_label, Located, More, DeclarationText, ends_names, ends_block, ends_blocks, ProgramText, ends_lines, ends_named, begins_program}
+use Rattle.il_reader.specs.Walk.{this_qualifier, either_qualifier_at, qualifier_at, blocked, variable_at, constant_at, named, field_at, inner_field_at, lone_at, operand_at, inner_operand_at, side_at, an_output, an_input, an_argument, argument_at, next_argument_at, together, inside_at, arguments_at, a_call, call_at, operator_at, optional_operand_at, nested_at, either_at, behind_at, operation_at, optional_operation_at, labelled, labelled_at, plain_at, either_line_at, line_at, name_at, names_at, initial_at, declared, declaration_at, block_at, end_at, finish_at, named_program, bare_program, named_at, bare_at, program_at}
 use Rattle.il_reader.specs.FirstFault.{StandsAt}
 use Rattle.il_reader.proofs.Programs.{next_shrinks, line_shrinks, name_shrinks, declaration_shrinks, block_shrinks, program_law}
-use Rattle.il_reader.proofs.Written.{sign_goes, Written, token_of, a_dot, dot_makes, dot_written, comma_written, a_close, close_makes, close_written, an_open, open_makes, open_written, a_colon, colon_makes, colon_written, semicolon_written, an_assign, assign_makes, assign_written, arrow_written, an_address, address_makes, address_written, a_break, break_makes, a_name, name_makes, name_written, variable_written, a_truth, truth_makes, truth_written, an_at, at_makes, at_written, an_end_var, end_var_makes, end_var_written, var_written, program_written, an_end_program, end_program_makes, end_program_written, end_makes}
+use Rattle.il_reader.proofs.Written.{retain_makes, retain_written, non_retain_written, sign_goes, written, Written, token_of, a_dot, dot_makes, dot_written, comma_written, a_close, close_makes, close_written, an_open, open_makes, open_written, a_colon, colon_makes, colon_written, semicolon_written, an_assign, assign_makes, assign_written, arrow_written, an_address, address_makes, address_written, a_break, break_makes, a_name, name_makes, name_written, variable_written, a_truth, truth_makes, truth_written, an_at, at_makes, at_written, an_end_var, end_var_makes, end_var_written, var_written, program_written, an_end_program, end_program_makes, end_program_written, end_makes}
 use Rattle.il_reader.proofs.Checks.{GoesOn, Check, good, bad, leaving, followed, FirstAt, Below, ReadsSome, Exact, here, farther, same_first, same_below, same_exact, fewer_below, fewer, taken_exact, chosen_by, choice_below, behind_breaks, no_break, skips_once, past_below, past_exact, past_taken_exact, tail, mapped_same, mapped_exact, mark_exact, mark_same, pair_exact, pair_same, led_exact, closed_exact, closed_same, choice_same, option_same, stop_same, stand_same, next, either_exact, option_exact, stop_exact, stand_exact, Blind, Listed, unrolls, turn, list_same, list_blind, Stopped, list_some, list_exact}
 
 -- tokens
@@ -571,24 +572,73 @@ declarations_exact dialect n k e = list_exact dialect (is_word_token (codes "END
     more : Check
     more = followed (many ends_block declaration_at) c
 
-abbrev in_block : Reading (List DeclarationText)
-in_block = closed (many ends_block declaration_at) (past (keyword (codes "END_VAR")))
+abbrev declared_block : Reading (List DeclarationText)
+declared_block = closed (many ends_block declaration_at) (past (keyword (codes "END_VAR")))
 
-abbrev solid_block : (dialect : Dialect) → Reading (List DeclarationText)
-solid_block dialect = led (keyword (block_word dialect)) in_block
+abbrev in_block : (dialect : Dialect) → Reading BlockText
+in_block dialect = mapped blocked (pair (past (qualifier_at dialect)) declared_block)
 
-solid_block_exact : (dialect : Dialect) → (n : ℕ) (k : Check) → Exact dialect n k → Exact dialect (suc (suc n)) (followed (solid_block dialect) k)
-unfolding spells
-solid_block_exact dialect n k e = led_exact dialect (keyword (block_word dialect)) in_block _ k (keyword_exact dialect (block_word dialect) (var_written dialect) _ _
-    (closed_exact dialect (many ends_block declaration_at) (past (keyword (codes "END_VAR"))) _ k (declarations_exact dialect n k e)))
+abbrev solid_block : (dialect : Dialect) → Reading BlockText
+solid_block dialect = led (keyword (block_word dialect)) (in_block dialect)
 
--- the rest of a block, where something is read behind it
-block_reads : (dialect : Dialect) → (more : Check) (text : List ℕ) → more (tokens_of dialect text) ≡ good → followed in_block more (tokens_of dialect (an_end_var text)) ≡ good
+-- the declarations of a block, where something is read behind them
+declared_reads : (dialect : Dialect) → (more : Check) (text : List ℕ) → more (tokens_of dialect text) ≡ good → followed declared_block more (tokens_of dialect (an_end_var text)) ≡ good
 unfolding keyword spells skip_breaks
-block_reads dialect more text reads =
+declared_reads dialect more text reads =
     closed_same (many ends_block declaration_at) (past (keyword (codes "END_VAR"))) more (tokens_of dialect (an_end_var text))
     ∙ list_some dialect (is_word_token (codes "END_VAR")) ends_block solid_declaration declaration_at (followed (past (keyword (codes "END_VAR"))) more) declarations_listed (past_blind (keyword (codes "END_VAR")) more)
     (record { text = an_end_var text; stop = rw (end_var_makes dialect text) refl; solid = rw (end_var_makes dialect text) refl; reads = rw (end_var_makes dialect text) reads })
+
+-- END_VAR is no qualifier
+end_unqualified : (dialect : Dialect) (text : List ℕ) → is_no_qualifier dialect (first (tokens_of dialect (an_end_var text))) ≡ true
+unfolding spells
+end_unqualified dialects.Plain text = refl
+end_unqualified dialects.Extended text = rw (end_var_makes dialects.Extended text) refl
+
+either_qualifier_exact : (dialect : Dialect) → (n : ℕ) (k : Check) → Exact dialect n k → Exact dialect (suc n) (followed either_qualifier_at k)
+unfolding either_qualifier_at keyword spells
+either_qualifier_exact dialect n k e = either_exact dialect (is_word_token (codes "RETAIN")) (this_qualifier qualifiers.Retain) (this_qualifier qualifiers.NonRetain) (suc n) k
+    (mapped_exact dialect (λ u. qualifiers.Retain) (keyword (codes "RETAIN")) _ k (keyword_exact dialect (codes "RETAIN") (retain_written dialect) n k e)).placed
+    (mapped_exact dialect (λ u. qualifiers.NonRetain) (keyword (codes "NON_RETAIN")) _ k (keyword_exact dialect (codes "NON_RETAIN") (non_retain_written dialect) n k e)).placed
+    (written (codes "RETAIN") e.some.0) (rw (retain_makes dialect e.some.0) e.some.1)
+
+-- a qualifier, or none, in front of the declarations of a block
+qualifier_exact : (dialect : Dialect) → (n : ℕ) (k : Check) → Exact dialect n k → Exact dialect (suc n) (followed (qualifier_at dialect) (followed declared_block k))
+unfolding qualifier_at
+qualifier_exact dialect n k e = stop_exact dialect (is_no_qualifier dialect) None (mapped Some either_qualifier_at) (suc n) rest
+    rest_exact.placed
+    (fewer dialect (followed (mapped Some either_qualifier_at) rest) (suc n) (mapped_exact dialect Some either_qualifier_at _ rest (either_qualifier_exact dialect (suc n) rest rest_exact))).placed
+    (an_end_var e.some.0) (rw (end_unqualified dialect e.some.0) (declared_reads dialect k e.some.0 e.some.1))
+  where
+    rest : Check
+    rest = followed declared_block k
+
+    rest_exact : Exact dialect (suc n) rest
+    rest_exact = closed_exact dialect (many ends_block declaration_at) (past (keyword (codes "END_VAR"))) _ k (declarations_exact dialect n k e)
+
+-- no qualifier, and the declarations of a block, where something is read behind them
+qualified_reads : (dialect : Dialect) → (more : Check) (text : List ℕ) → more (tokens_of dialect text) ≡ good → followed (qualifier_at dialect) (followed declared_block more) (tokens_of dialect (an_end_var text)) ≡ good
+unfolding qualifier_at
+qualified_reads dialect more text reads =
+    stop_same (no_qualifier dialect) None (mapped Some either_qualifier_at) (followed declared_block more) (tokens_of dialect (an_end_var text))
+    ∙ rw (end_unqualified dialect text) (declared_reads dialect more text reads)
+
+-- the rest of a block, where something is read behind it
+block_reads : (dialect : Dialect) → (more : Check) (text : List ℕ) → more (tokens_of dialect text) ≡ good → followed (in_block dialect) more (tokens_of dialect (an_end_var text)) ≡ good
+block_reads dialect more text reads =
+    mapped_same blocked (pair (past (qualifier_at dialect)) declared_block) more (tokens_of dialect (an_end_var text))
+    ∙ pair_same (past (qualifier_at dialect)) declared_block more (tokens_of dialect (an_end_var text))
+    ∙ ap (λ (ts : List Token). followed (qualifier_at dialect) (followed declared_block more) ts) (no_break (tokens_of dialect (an_end_var text)) (rw (end_var_makes dialect text) refl))
+    ∙ qualified_reads dialect more text reads
+
+in_block_exact : (dialect : Dialect) → (n : ℕ) (k : Check) → Exact dialect n k → Exact dialect (suc n) (followed (in_block dialect) k)
+in_block_exact dialect n k e = mapped_exact dialect blocked (pair (past (qualifier_at dialect)) declared_block) (suc n) k
+    (pair_exact dialect (past (qualifier_at dialect)) declared_block (suc n) k
+    (past_exact dialect (followed (qualifier_at dialect) (followed declared_block k)) (suc n) (qualifier_exact dialect n k e).placed (an_end_var e.some.0) (rw (end_var_makes dialect e.some.0) refl) (qualified_reads dialect k e.some.0 e.some.1)))
+
+solid_block_exact : (dialect : Dialect) → (n : ℕ) (k : Check) → Exact dialect n k → Exact dialect (suc (suc n)) (followed (solid_block dialect) k)
+unfolding spells
+solid_block_exact dialect n k e = led_exact dialect (keyword (block_word dialect)) (in_block dialect) _ k (keyword_exact dialect (block_word dialect) (var_written dialect) _ _ (in_block_exact dialect n k e))
 
 abbrev many_blocks : (dialect : Dialect) → Check → Check
 many_blocks dialect k = followed (many (ends_blocks dialect) (block_at dialect)) k
@@ -651,7 +701,7 @@ extended_below k p b l s m = placed
     body = blocks_body dialects.Extended k more
 
     after : Check
-    after = chosen_by (is_sign signs.Colon) l.label (followed in_block more)
+    after = chosen_by (is_sign signs.Colon) l.label (followed (in_block dialects.Extended) more)
 
     some : ReadsSome dialects.Extended body
     some = (s.text, body_reads dialects.Extended k more s)
@@ -660,11 +710,11 @@ extended_below k p b l s m = placed
     reads =
         let text = an_end_var m.some.0 in
         let no_colon : is_sign signs.Colon (first (tokens_of dialects.Extended text)) ≡ false = rw (end_var_makes dialects.Extended m.some.0) refl in
-        (text, ap (λ (c : Bool). cond c (l.label (tokens_of dialects.Extended text)) (followed in_block more (tokens_of dialects.Extended text))) no_colon ∙ block_reads dialects.Extended more m.some.0 m.some.1)
+        (text, ap (λ (c : Bool). cond c (l.label (tokens_of dialects.Extended text)) (followed (in_block dialects.Extended) more (tokens_of dialects.Extended text))) no_colon ∙ block_reads dialects.Extended more m.some.0 m.some.1)
 
     below : Below dialects.Extended (suc p) after
-    below = choice_below dialects.Extended (is_sign signs.Colon) l.label (followed in_block more) (suc p) (l.exact (suc p))
-        (closed_exact dialects.Extended (many ends_block declaration_at) (past (keyword (codes "END_VAR"))) (suc p) more (declarations_exact dialects.Extended p more m)).placed reads
+    below = choice_below dialects.Extended (is_sign signs.Colon) l.label (followed (in_block dialects.Extended) more) (suc p) (l.exact (suc p))
+        (in_block_exact dialects.Extended p more m).placed reads
 
     same : (t : Token) (us : List Token) → is_word_token (codes "VAR_GLOBAL") t ≡ true → body (t ∷ us) ≡ after us
     same t us is = by_colon (is_sign signs.Colon (first us)) refl

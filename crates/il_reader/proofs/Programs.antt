@@ -1,6 +1,7 @@
 -- The laws of each part of the grammar.
-use Rattle.std.proofs.Common.{◌≡◌, ℕ, length, ◌<◌, Bool, true, false, cond, List, [], ◌∷◌, ◌++◌, Option, Some, None, Result, Ok, refl, sym, ap, subst, ◌∙◌, arith, codes, inl, inr, ◌⊎◌, ◌&&◌, ◌||◌}
+use Rattle.std.proofs.Common.{◌≡◌, ℕ, length, ◌<◌, eqb, Bool, true, false, cond, List, [], ◌∷◌, ◌++◌, Option, Some, None, Result, Ok, refl, sym, ap, subst, ◌∙◌, arith, codes, inl, inr, ◌⊎◌, ◌&&◌, ◌||◌}
 use Rattle.std.specs.List.{flat_map}
+use Rattle.std.proofs.lemmas.Bool.{eqb-true}
 use Rattle.il_model.specs.declared.dialect.Dialect.{Dialect}
 use Rattle.il_reader.specs.declared.fault.FaultAt.{FaultAt}
 use Rattle.il_reader.specs.declared.lexeme.Sign.{Sign}
@@ -8,6 +9,9 @@ use Rattle.il_reader.specs.declared.lexeme.Sign.TheVariants as signs
 use Rattle.il_reader.specs.declared.lexeme.Class.{Class}
 use Rattle.il_reader.specs.declared.lexeme.Class.TheVariants as classes
 use Rattle.il_reader.specs.declared.contents.Operator.{Operator}
+use Rattle.il_model.specs.Words.{spells, upper}
+use Rattle.il_reader.specs.declared.contents.Qualifier.{Qualifier}
+use Rattle.il_reader.specs.declared.contents.Qualifier.TheVariants as qualifiers
 use Rattle.il_model.specs.declared.program.Side.{Side}
 use Rattle.il_model.specs.declared.program.Side.TheVariants as sides
 use Rattle.il_reader.specs.declared.operations.Form.{Form}
@@ -15,9 +19,9 @@ use Rattle.il_reader.specs.declared.operations.Form.TheVariants as forms
 use Rattle.il_reader.specs.Tokens.{Token}
 use Rattle.il_reader.specs.Front.{same_sign, is_class_of, is_sign, is_end_class, first, skip_breaks, next_is, at_end, is_word_token, next_is_word}
 use Rattle.il_reader.specs.Reading.{◌>>=◌, Reading, expect, both, pair, choice, mapped, mark, stand, many, closed, keyword}
-use Rattle.il_reader.specs.Grammar.{block_word, OperandText, Constant, Direct, Named, Field, ArgumentText, CallText, BehindText, Nothing, Given, Target, Opened, Called, no_dot, before_dot, before_no_dot, ends_arguments, before_close, no_open, OperationText, LineText, Labelled, Plain, NamesText, Located, More, DeclarationText, ProgramText, is_truth, is_variable, is_constant, form_of, operator_of, is_line_stop, is_label, is_no_label, ends_lines, ends_named, ends_names, no_value, ends_block, ends_blocks, begins_program}
-use Rattle.il_reader.specs.Walk.{field_at, inner_field_at, named_by, named, next_is_variable, lone_at, inner_operand_at, an_output, an_input, side_at, an_argument, argument_at, next_argument_at, together, inside_at, arguments_at, a_call, call_at, operator_at, variable_at, constant_at, operand_at, optional_operand_at, nested_at, either_at, behind_at, operation_at, optional_operation_at, labelled, labelled_at, plain_at, either_line_at, line_at, name_at, names_at, initial_at, declared, declaration_at, block_at, named_program, bare_program, end_at, finish_at, named_at, bare_at, program_at}
-use Rattle.il_reader.specs.Spelling.{Part, breaks, one, this, operator, ahead, Spell, name, sign, word, spelled_operand, spelled_inner_operand, spelled_side, spelled_argument, spelled_next, spelled_inside, spelled_arguments, spelled_call, spelled_optional, accepts, accepting, spelled_behind, spelled_operation, spelled_optional_operation, spelled_content, spelled_line, spelled_name, is_not_at, spelled_names, spelled_initial, spelled_declaration, spelled_block, is_bare, spelled_bare, spelled_by, spelled_program, listed}
+use Rattle.il_reader.specs.Grammar.{block_word, OperandText, Constant, Direct, Named, Field, ArgumentText, CallText, BehindText, Nothing, Given, Target, Opened, Called, no_dot, before_dot, before_no_dot, ends_arguments, before_close, no_open, OperationText, LineText, Labelled, Plain, NamesText, Located, More, DeclarationText, ProgramText, is_truth, is_variable, is_constant, form_of, operator_of, is_line_stop, is_label, is_no_label, ends_lines, ends_named, ends_names, no_value, ends_block, ends_blocks, begins_program, BlockText, qualifier_word, no_qualifier, is_qualifier}
+use Rattle.il_reader.specs.Walk.{field_at, inner_field_at, named_by, named, next_is_variable, lone_at, inner_operand_at, an_output, an_input, side_at, an_argument, argument_at, next_argument_at, together, inside_at, arguments_at, a_call, call_at, operator_at, variable_at, constant_at, operand_at, optional_operand_at, nested_at, either_at, behind_at, operation_at, optional_operation_at, labelled, labelled_at, plain_at, either_line_at, line_at, name_at, names_at, initial_at, declared, declaration_at, either_qualifier_at, qualifier_at, blocked, block_at, named_program, bare_program, end_at, finish_at, named_at, bare_at, program_at}
+use Rattle.il_reader.specs.Spelling.{Part, breaks, one, this, operator, ahead, Spell, name, sign, word, spelled_operand, spelled_inner_operand, spelled_side, spelled_argument, spelled_next, spelled_inside, spelled_arguments, spelled_call, spelled_optional, accepts, accepting, spelled_behind, spelled_operation, spelled_optional_operation, spelled_content, spelled_line, spelled_name, is_not_at, spelled_names, spelled_initial, spelled_declaration, spelled_qualifier, spelled_block, is_bare, spelled_bare, spelled_by, spelled_program, listed}
 use Rattle.il_reader.proofs.Laws.{Law, Any, ok_is, bind_ok, count, law_shrinks, led_law, closed_law, many_law, until_law, pair_law, mapped_law, choice_law, told_law, past_law, else_law, no_front, stand_law, token_law, one_law, mark_law, meaning_law}
 
 -- tokens
@@ -842,14 +846,85 @@ declaration_law = mapped_law _ Any _ spelled_declaration declared _
 declaration_counts : (d : DeclarationText) → 0 < count (spelled_declaration d)
 declaration_counts d = omega arith
 
+-- the two words begin with other letters
+words_apart : (w : List ℕ) → spells (codes "NON_RETAIN") w ≡ true → spells (codes "RETAIN") w ≡ false
+unfolding spells
+words_apart [] e = refl
+words_apart (b ∷ bs) e = let v : upper b ≡ 78 = eqb-true (upper b) 78 (and_left (eqb (upper b) 78) _ e) in rw v refl
+
+not_retain : (t : Token) → is_word_token (codes "NON_RETAIN") t ≡ true → is_word_token (codes "RETAIN") t ≡ false
+not_retain t is =
+    let other = words_apart t.text (and_right (is_sign signs.Name t) (spells (codes "NON_RETAIN") t.text) is) in
+    rw (and_left (is_sign signs.Name t) _ is, other) refl
+
+this_law : (q : Qualifier) → Law Any (λ (x : Unit {0}). word (qualifier_word q) ∷ []) (keyword (qualifier_word q))
+this_law q = keyword_law (qualifier_word q)
+
+abbrev spelled_either : Qualifier → List Part
+spelled_either q = word (qualifier_word q) ∷ []
+
+either_qualifier_law : Law Any spelled_either either_qualifier_at
+unfolding either_qualifier_at
+either_qualifier_law = told_law (λ q. (qualifiers.Retain ≡ q) ⊎ (qualifiers.NonRetain ≡ q)) Any spelled_either _
+    (choice_law (λ q. qualifiers.Retain ≡ q) (λ q. qualifiers.NonRetain ≡ q) spelled_either (next_is_word (qualifier_word qualifiers.Retain)) _ _
+    (mapped_law Any (λ q. qualifiers.Retain ≡ q) _ spelled_either (λ u. qualifiers.Retain) _ (this_law qualifiers.Retain) (λ x. refl) (λ x d. refl) (λ q d. (tt, d, tt)))
+    (mapped_law Any (λ q. qualifiers.NonRetain ≡ q) _ spelled_either (λ u. qualifiers.NonRetain) _ (this_law qualifiers.NonRetain) (λ x. refl) (λ x d. refl) (λ q d. (tt, d, tt)))
+    begins begins_not)
+    (λ x d. tt) all
+  where
+    begins : (q : Qualifier) (ts rest : List Token) → qualifiers.Retain ≡ q → Spell (spelled_either q) ts rest → next_is_word (codes "RETAIN") ts ≡ true
+    begins qualifiers.Retain ts rest d h = front (is_word_token (codes "RETAIN")) [] ts rest h
+    begins qualifiers.NonRetain ts rest d h = absurd cc
+
+    begins_not : (q : Qualifier) (ts rest : List Token) → qualifiers.NonRetain ≡ q → Spell (spelled_either q) ts rest → next_is_word (codes "RETAIN") ts ≡ false
+    begins_not qualifiers.NonRetain ts rest d h = not_retain (first ts) (front (is_word_token (codes "NON_RETAIN")) [] ts rest h)
+    begins_not qualifiers.Retain ts rest d h = absurd cc
+
+    all : (q : Qualifier) → Unit {0} → (qualifiers.Retain ≡ q) ⊎ (qualifiers.NonRetain ≡ q)
+    all qualifiers.Retain d = inl refl
+    all qualifiers.NonRetain d = inr refl
+
+-- behind the test, where there is one
+abbrev spelled_some : Option Qualifier → List Part
+spelled_some None = []
+spelled_some (Some q) = spelled_either q
+
+qualifier_law : (dialect : Dialect) → Law Any (spelled_qualifier dialect) (qualifier_at dialect)
+unfolding qualifier_at
+qualifier_law dialect = told_law (λ o. (None ≡ o) ⊎ IsSome o) Any (spelled_qualifier dialect) _
+    (else_law (λ o. None ≡ o) IsSome (spelled_qualifier dialect) spelled_some (no_qualifier dialect) _ _
+    (stand_law (spelled_qualifier dialect) (no_qualifier dialect) None refl)
+    (mapped_law Any IsSome spelled_either spelled_some Some _ either_qualifier_law (λ x. refl) (λ x d. tt) from_some)
+    same begins)
+    (λ x d. tt) all
+  where
+    same : (o : Option Qualifier) → IsSome o → spelled_qualifier dialect o ≡ ahead (is_qualifier dialect) ∷ spelled_some o
+    same (Some q) d = refl
+    same None d = absurd d
+
+    begins : (o : Option Qualifier) (ts rest : List Token) → None ≡ o → Spell (spelled_qualifier dialect o) ts rest → no_qualifier dialect ts ≡ true
+    begins None ts rest d h = h.0
+    begins (Some q) ts rest d h = absurd cc
+
+    all : (o : Option Qualifier) → Unit {0} → (None ≡ o) ⊎ IsSome o
+    all None d = inl refl
+    all (Some q) d = inr tt
+
+abbrev spelled_inside_block : Dialect → BlockText → List Part
+spelled_inside_block dialect b = breaks ∷ (spelled_qualifier dialect b.qualifier ++ (listed ends_block spelled_declaration b.declarations ++ breaks ∷ word (codes "END_VAR") ∷ []))
+
 block_law : (dialect : Dialect) → Law Any (spelled_block dialect) (block_at dialect)
 unfolding block_at
-block_law dialect = led_law Any (breaks ∷ word (block_word dialect) ∷ []) (λ ds. listed ends_block spelled_declaration ds ++ breaks ∷ word (codes "END_VAR") ∷ []) _ _
+block_law dialect = led_law Any (breaks ∷ word (block_word dialect) ∷ []) (spelled_inside_block dialect) _ _
     (past_law Any _ _ (keyword_law (block_word dialect)))
-    (closed_law Any _ _ _ _ (until_law spelled_declaration ends_block declaration_at declaration_law declaration_counts) (past_law Any _ _ (keyword_law (codes "END_VAR"))))
+    (mapped_law _ Any _ (spelled_inside_block dialect) blocked _
+    (pair_law Any Any _ _ _ _ (past_law Any _ _ (qualifier_law dialect))
+    (closed_law Any _ _ _ _ (until_law spelled_declaration ends_block declaration_at declaration_law declaration_counts) (past_law Any _ _ (keyword_law (codes "END_VAR")))))
+    (λ x. refl) (λ x d. tt)
+    (λ b fits. (both b.qualifier b.declarations, refl, both tt tt)))
 
-block_counts : (dialect : Dialect) → (ds : List DeclarationText) → 0 < count (spelled_block dialect ds)
-block_counts dialect ds = omega arith
+block_counts : (dialect : Dialect) → (b : BlockText) → 0 < count (spelled_block dialect b)
+block_counts dialect b = omega arith
 
 -- what each thing of a list takes
 
@@ -865,7 +940,7 @@ name_shrinks = law_shrinks spelled_name name_at name_law name_counts
 pub declaration_shrinks : (ts : List Token) (x : DeclarationText × List Token) → declaration_at ts ≡ Ok x → length x.1 < length ts
 declaration_shrinks = law_shrinks spelled_declaration declaration_at declaration_law declaration_counts
 
-pub block_shrinks : (dialect : Dialect) → (ts : List Token) (x : List DeclarationText × List Token) → block_at dialect ts ≡ Ok x → length x.1 < length ts
+pub block_shrinks : (dialect : Dialect) → (ts : List Token) (x : BlockText × List Token) → block_at dialect ts ≡ Ok x → length x.1 < length ts
 block_shrinks dialect = law_shrinks (spelled_block dialect) (block_at dialect) (block_law dialect) (block_counts dialect)
 
 -- programs
@@ -902,7 +977,7 @@ titled_law dialect = mapped_law _ IsNamedProgram _ (spelled_titled dialect) name
     (closed_law Any _ _ _ _ (until_law (spelled_line dialect) ends_named (line_at dialect) (line_law dialect) (line_counts dialect)) finish_law)))
     (λ x. refl) (λ x d. tt) from
   where
-    from : (s : ProgramText) → IsNamedProgram s → (x : Token × (List (List DeclarationText) × List LineText)) × (named_program x ≡ s) × (Unit {0} × (Unit {0} × Unit {0}))
+    from : (s : ProgramText) → IsNamedProgram s → (x : Token × (List BlockText × List LineText)) × (named_program x ≡ s) × (Unit {0} × (Unit {0} × Unit {0}))
     from s d =
         let t = some_from s.name d in
         (both t.0 (both s.blocks s.lines), ap (λ (o : Option Token). made o) t.1, both tt (both tt tt))
@@ -929,7 +1004,7 @@ bare_law dialect = mapped_law _ IsBareProgram _ (spelled_rest dialect) bare_prog
     (closed_law Any _ _ _ _ (until_law (spelled_line dialect) ends_lines (line_at dialect) (line_law dialect) (line_counts dialect)) (past_law Any _ _ end_law)))
     (λ x. refl) (λ x d. refl) from
   where
-    from : (s : ProgramText) → IsBareProgram s → (x : List (List DeclarationText) × List LineText) × (bare_program x ≡ s) × (Unit {0} × Unit {0})
+    from : (s : ProgramText) → IsBareProgram s → (x : List BlockText × List LineText) × (bare_program x ≡ s) × (Unit {0} × Unit {0})
     from s d = (both s.blocks s.lines, ap (λ (o : Option Token). made o) d, both tt tt)
       where
         made : Option Token → ProgramText

@@ -15,9 +15,9 @@ use Rattle.il_reader.specs.declared.lexeme.Class.TheVariants as classes
 use Rattle.il_reader.specs.declared.fault.FaultKind.TheVariants.{BadToken, TooLong}
 use Rattle.il_reader.specs.Tokens.{Token, is_letter_byte, is_word_byte, is_number_start, is_blank_byte, is_within, is_n, begins_with, sign, broken, name_of, literal_piece, word_piece, sign_of, solid_piece, comment_piece, comment_len, piece_of, put, tokens_behind, tokens_of}
 use Rattle.il_reader.specs.Front.{is_class_of, is_sign, skip_breaks}
-use Rattle.il_reader.specs.Grammar.{LineText, Labelled, Plain, OperationText, is_line_stop, NamesText, Located, More, DeclarationText, ProgramText, ends_names, ends_block, ends_blocks, ends_lines, ends_named}
+use Rattle.il_reader.specs.Grammar.{LineText, Labelled, Plain, OperationText, is_line_stop, NamesText, Located, More, DeclarationText, BlockText, ProgramText, ends_names, ends_block, ends_blocks, ends_lines, ends_named}
 use Rattle.il_reader.specs.Words.{begins_letter, IsWordText, IsWordName, AreWordNames, IsWordDeclaration, IsOptionalOperation, IsOperator, AreWords}
-use Rattle.il_reader.specs.Spelling.{Part, breaks, one, this, operator, ahead, Spell, Says, spelled_name, spelled_names, spelled_declaration, spelled_block, spelled_line, spelled_program, spelled_by, going, listed, spelled_optional_operation}
+use Rattle.il_reader.specs.Spelling.{Part, breaks, one, this, operator, ahead, Spell, Says, spelled_name, spelled_names, spelled_declaration, spelled_qualifier, spelled_block, spelled_line, spelled_program, spelled_by, going, listed, spelled_optional_operation}
 
 -- ---- tokens
 
@@ -183,11 +183,13 @@ names_good (More ts) qs all = each_good IsWordName spelled_name (ahead ends_name
 declaration_good : (d : DeclarationText) → AllByRecursion GoodPart (going ends_block spelled_declaration d) → IsWordDeclaration d
 declaration_good d all = record { name = a_name d.name all.1.1.0; names = names_good d.names _ all.1.1.1.1 }
 
-block_good : (dialect : Dialect) → (ds : List DeclarationText) → AllByRecursion GoodPart (going (ends_blocks dialect) (spelled_block dialect) ds) → AllByRecursion IsWordDeclaration ds
-block_good dialect ds all = each_good IsWordDeclaration (going ends_block spelled_declaration) (ahead ends_block ∷ []) declaration_good ds (left_good (listed ends_block spelled_declaration ds) _ all.1.1.1)
+block_good : (dialect : Dialect) → (b : BlockText) → AllByRecursion GoodPart (going (ends_blocks dialect) (spelled_block dialect) b) → AllByRecursion IsWordDeclaration b.declarations
+block_good dialect b all =
+    let behind = right_good (spelled_qualifier dialect b.qualifier) _ all.1.1.1.1 in
+    each_good IsWordDeclaration (going ends_block spelled_declaration) (ahead ends_block ∷ []) declaration_good b.declarations (left_good (listed ends_block spelled_declaration b.declarations) _ behind)
 
-blocks_good : (dialect : Dialect) → (bs : List (List DeclarationText)) (qs : List Part) → AllByRecursion GoodPart (listed (ends_blocks dialect) (spelled_block dialect) bs ++ qs) → AllByRecursion (AllByRecursion IsWordDeclaration) bs
-blocks_good dialect bs qs all = each_good (AllByRecursion IsWordDeclaration) (going (ends_blocks dialect) (spelled_block dialect)) (ahead (ends_blocks dialect) ∷ []) (block_good dialect) bs (left_good (listed (ends_blocks dialect) (spelled_block dialect) bs) qs all)
+blocks_good : (dialect : Dialect) → (bs : List BlockText) (qs : List Part) → AllByRecursion GoodPart (listed (ends_blocks dialect) (spelled_block dialect) bs ++ qs) → AllByRecursion (λ (b : BlockText). AllByRecursion IsWordDeclaration b.declarations) bs
+blocks_good dialect bs qs all = each_good (λ (b : BlockText). AllByRecursion IsWordDeclaration b.declarations) (going (ends_blocks dialect) (spelled_block dialect)) (ahead (ends_blocks dialect) ∷ []) (block_good dialect) bs (left_good (listed (ends_blocks dialect) (spelled_block dialect) bs) qs all)
 
 line_good : (dialect : Dialect) → (stops : List Token → Bool) (l : LineText) → AllByRecursion GoodPart (going stops (spelled_line dialect) l) → IsOperator dialect l
 line_good dialect stops (Plain o) all = all.1.1.1.0

@@ -188,6 +188,22 @@ pub end_var_written : (dialect : Dialect) → Written dialect (is_word_token (co
 unfolding spells
 end_var_written dialect = record { sign = signs.Name; word = codes "END_VAR"; makes = end_var_makes dialect; passes = λ more. refl; solid = λ more. refl; goes = λ u is. name_goes u (spells (codes "END_VAR") u.text) is }
 
+pub retain_makes : (dialect : Dialect) → Makes dialect signs.Name (codes "RETAIN")
+unfolding tokens_behind piece_of solid_piece word_piece name_of is_well_spelled
+retain_makes dialect more = refl
+
+pub retain_written : (dialect : Dialect) → Written dialect (is_word_token (codes "RETAIN"))
+unfolding spells
+retain_written dialect = record { sign = signs.Name; word = codes "RETAIN"; makes = retain_makes dialect; passes = λ more. refl; solid = λ more. refl; goes = λ u is. name_goes u (spells (codes "RETAIN") u.text) is }
+
+non_retain_makes : (dialect : Dialect) → Makes dialect signs.Name (codes "NON_RETAIN")
+unfolding tokens_behind piece_of solid_piece word_piece name_of is_well_spelled
+non_retain_makes dialect more = refl
+
+pub non_retain_written : (dialect : Dialect) → Written dialect (is_word_token (codes "NON_RETAIN"))
+unfolding spells
+non_retain_written dialect = record { sign = signs.Name; word = codes "NON_RETAIN"; makes = non_retain_makes dialect; passes = λ more. refl; solid = λ more. refl; goes = λ u is. name_goes u (spells (codes "NON_RETAIN") u.text) is }
+
 pub var_makes : (dialect : Dialect) → Makes dialect signs.Name (block_word dialect)
 unfolding tokens_behind piece_of solid_piece word_piece name_of is_well_spelled
 var_makes dialects.Plain more = refl

@@ -1,6 +1,6 @@
 -- What a text says, and how the tokens in it are told apart, by IEC 61131-3:2003, Annex B.
-use Rattle.std.specs.Prelude.{ℕ, List, [], map, Option, Some, None, is_none, option_map, Bool, false, not, ◌||◌, ◌&&◌}
-use Rattle.std.specs.Prelude.{if◌then◌else◌, codes}
+use Rattle.std.specs.Prelude.{ℕ, List, [], map, Option, Some, None, is_none, option_map, Bool, true, false, not, ◌||◌}
+use Rattle.std.specs.Prelude.{◌&&◌, if◌then◌else◌, codes}
 use Rattle.il_model.specs.declared.dialect.Dialect.{Dialect}
 use Rattle.il_model.specs.declared.dialect.Dialect.TheVariants as dialects
 use Rattle.il_model.specs.declared.op.Op.{Op}
@@ -25,9 +25,12 @@ use Rattle.il_reader.specs.declared.operations.Form.TheVariants as forms
 use Rattle.il_reader.specs.declared.contents.Names.{Names}
 use Rattle.il_reader.specs.declared.contents.Names.TheVariants as names
 use Rattle.il_reader.specs.declared.contents.Declaration.{Declaration}
+use Rattle.il_reader.specs.declared.contents.Qualifier.{Qualifier}
+use Rattle.il_reader.specs.declared.contents.Qualifier.TheVariants as qualifiers
+use Rattle.il_reader.specs.declared.contents.Block.{Block}
 use Rattle.il_reader.specs.declared.contents.Contents.{Contents}
 use Rattle.il_reader.specs.Tokens.{Token, token, tokens_of}
-use Rattle.il_reader.specs.Front.{first, others, is_sign, next_is, at_end, next_is_word, skip_breaks}
+use Rattle.il_reader.specs.Front.{first, others, is_sign, is_word_token, next_is, at_end, next_is_word, skip_breaks}
 
 -- ---- what a text says, without where it lies in memory
 
@@ -76,10 +79,15 @@ pub record DeclarationText : Type 0 where
   pub ty : Token
   pub initial : Option Token
 
+-- a block of declarations, and the qualifier in front of them, where there is one
+pub record BlockText : Type 0 where
+  pub qualifier : Option Qualifier
+  pub declarations : List DeclarationText
+
 -- a program's name, its blocks of declarations and its instruction lines
 pub record ProgramText : Type 0 where
   pub name : Option Token
-  pub blocks : List (List DeclarationText)
+  pub blocks : List BlockText
   pub lines : List LineText
 
 abbrev pub operand : Operand → OperandText
@@ -132,10 +140,13 @@ declaration d = record {
 abbrev pub declarations : List Declaration → List DeclarationText
 declarations ds = map declaration ds
 
+abbrev pub block_text : Block → BlockText
+block_text b = record { qualifier = b.qualifier; declarations = declarations b.declarations.items }
+
 abbrev pub program_text : Contents → ProgramText
 program_text c = record {
   name = option_map token c.name;
-  blocks = map (λ ds. declarations ds.items) c.blocks.items;
+  blocks = map block_text c.blocks.items;
   lines = map line c.lines.items;
 }
 
@@ -242,6 +253,31 @@ block_word dialects.Extended = codes "VAR_GLOBAL"
 abbrev pub begins_block : Dialect → List Token → Bool
 begins_block dialects.Plain ts = next_is_word (codes "VAR") ts
 begins_block dialects.Extended ts = next_is_word (codes "VAR_GLOBAL") ts && not (next_is signs.Colon (others ts))
+
+-- the word of a qualifier (2.4.3); it stands right behind the word that opens a block of an extended text, and in any
+-- other place it is a name
+abbrev pub qualifier_word : Qualifier → List ℕ
+qualifier_word qualifiers.Retain = codes "RETAIN"
+qualifier_word qualifiers.NonRetain = codes "NON_RETAIN"
+
+abbrev pub is_no_qualifier : Dialect → Token → Bool
+is_no_qualifier dialects.Plain t = true
+is_no_qualifier dialects.Extended t =
+    not (is_word_token (qualifier_word qualifiers.Retain) t || is_word_token (qualifier_word qualifiers.NonRetain) t)
+
+abbrev pub no_qualifier : Dialect → List Token → Bool
+no_qualifier dialect ts = is_no_qualifier dialect (first ts)
+
+abbrev pub is_qualifier : Dialect → List Token → Bool
+is_qualifier dialect ts = not (no_qualifier dialect ts)
+
+-- what a block declares is retained where its qualifier says so
+abbrev pub says_retained : Option Qualifier → Bool
+says_retained (Some qualifiers.Retain) = true
+says_retained qualifier = false
+
+abbrev pub is_retained : BlockText → Bool
+is_retained b = says_retained b.qualifier
 
 unfoldable pub ends_blocks : Dialect → List Token → Bool
 ends_blocks dialect ts = not (begins_block dialect (skip_breaks ts))

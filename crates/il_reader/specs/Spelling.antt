@@ -5,6 +5,7 @@ use Rattle.std.specs.Prelude.{if◌then◌else◌}
 use Rattle.std.specs.List.{flat_map}
 use Rattle.il_model.specs.declared.dialect.Dialect.{Dialect}
 use Rattle.il_reader.specs.declared.contents.Operator.{Operator}
+use Rattle.il_reader.specs.declared.contents.Qualifier.{Qualifier}
 use Rattle.il_model.specs.declared.program.Side.{Side}
 use Rattle.il_model.specs.declared.program.Side.TheVariants as sides
 use Rattle.il_reader.specs.declared.operations.Form.{Form}
@@ -17,7 +18,8 @@ use Rattle.il_reader.specs.Grammar.{block_word}
 use Rattle.il_reader.specs.Grammar.{OperandText, Constant, Direct, Named, Field, ArgumentText, CallText, no_dot}
 use Rattle.il_reader.specs.Grammar.{before_no_dot, before_close, ends_arguments, no_open, BehindText, Nothing, Given}
 use Rattle.il_reader.specs.Grammar.{Target, Opened, Called, OperationText, LineText, Labelled, Plain, NamesText}
-use Rattle.il_reader.specs.Grammar.{Located, More, DeclarationText, ProgramText, is_constant, is_variable, form_of}
+use Rattle.il_reader.specs.Grammar.{Located, More, DeclarationText, BlockText, ProgramText, is_constant, is_variable}
+use Rattle.il_reader.specs.Grammar.{form_of, qualifier_word, is_qualifier, no_qualifier}
 use Rattle.il_reader.specs.Grammar.{operator_of, is_line_stop, is_no_label, no_value, ends_names, ends_block}
 use Rattle.il_reader.specs.Grammar.{ends_blocks, ends_lines, ends_named, begins_program}
 
@@ -183,11 +185,18 @@ going stops s x = ahead (λ us. not (stops us)) ∷ s x
 abbrev pub listed : {X : Type 0} → (List Token → Bool) → (X → List Part) → List X → List Part
 listed stops s xs = flat_map (going stops s) xs ++ ahead stops ∷ []
 
--- var_declarations and located_var_declarations, which may stand in one block (B.1.4.3)
-abbrev pub spelled_block : Dialect → List DeclarationText → List Part
-spelled_block dialect ds =
+-- RETAIN or NON_RETAIN of var_declarations, retentive_var_declarations and located_var_declarations, where it stands
+-- (B.1.4.3)
+abbrev pub spelled_qualifier : Dialect → Option Qualifier → List Part
+spelled_qualifier dialect None = ahead (no_qualifier dialect) ∷ []
+spelled_qualifier dialect (Some q) = ahead (is_qualifier dialect) ∷ word (qualifier_word q) ∷ []
+
+-- these, which may stand in one block (B.1.4.3)
+abbrev pub spelled_block : Dialect → BlockText → List Part
+spelled_block dialect b =
     breaks ∷ word (block_word dialect)
-    ∷ (listed ends_block spelled_declaration ds ++ breaks ∷ word (codes "END_VAR") ∷ [])
+    ∷ breaks ∷ (spelled_qualifier dialect b.qualifier
+    ++ (listed ends_block spelled_declaration b.declarations ++ breaks ∷ word (codes "END_VAR") ∷ []))
 
 -- ---- programs
 

@@ -8,6 +8,8 @@ use Rattle.il_reader.specs.declared.fault.FaultAt.{FaultAt}
 use Rattle.il_reader.specs.declared.fault.Fault.{Fault}
 use Rattle.il_reader.specs.declared.lexeme.Sign.TheVariants as signs
 use Rattle.il_reader.specs.declared.contents.Operator.{Operator}
+use Rattle.il_reader.specs.declared.contents.Qualifier.{Qualifier}
+use Rattle.il_reader.specs.declared.contents.Qualifier.TheVariants as qualifiers
 use Rattle.il_model.specs.declared.program.Side.{Side}
 use Rattle.il_model.specs.declared.program.Side.TheVariants as sides
 use Rattle.il_reader.specs.declared.operations.Form.{Form}
@@ -18,7 +20,8 @@ use Rattle.il_reader.specs.Reading.{◌>>=◌, expect, keyword, meaning, many, R
 use Rattle.il_reader.specs.Reading.{past, mark, stand}
 use Rattle.il_reader.specs.Grammar.{dialect_of, block_word}
 use Rattle.il_reader.specs.Grammar.{OperandText, ArgumentText, CallText, BehindText, OperationText, LineText, NamesText}
-use Rattle.il_reader.specs.Grammar.{DeclarationText, ProgramText, form_of, operator_of, is_variable, is_constant}
+use Rattle.il_reader.specs.Grammar.{DeclarationText, BlockText, ProgramText, form_of, operator_of, is_variable}
+use Rattle.il_reader.specs.Grammar.{is_constant, qualifier_word, no_qualifier}
 use Rattle.il_reader.specs.Grammar.{no_dot, before_dot, before_no_dot, is_line_stop, ends_arguments, before_close}
 use Rattle.il_reader.specs.Grammar.{no_open, is_label, ends_lines, ends_named, ends_names, no_value, ends_block}
 use Rattle.il_reader.specs.Grammar.{ends_blocks, begins_program, Constant, Direct, Named, Field, Nothing, Given, Target}
@@ -209,18 +212,36 @@ declaration_at ts = mapped declared
     (pair (past (expect signs.Name))
     (closed (past initial_at) (past (mark (expect signs.Semicolon)))))))) ts
 
--- var_declarations and located_var_declarations, which may stand in one block (B.1.4.3)
-unfoldable pub block_at : Dialect → Reading (List DeclarationText)
+abbrev pub this_qualifier : Qualifier → Reading Qualifier
+this_qualifier q ts = mapped (λ u. q) (keyword (qualifier_word q)) ts
+
+-- RETAIN or NON_RETAIN
+unfoldable pub either_qualifier_at : Reading Qualifier
+either_qualifier_at ts = choice (next_is_word (qualifier_word qualifiers.Retain)) (this_qualifier qualifiers.Retain)
+    (this_qualifier qualifiers.NonRetain) ts
+
+-- the one or the other of var_declarations, retentive_var_declarations and located_var_declarations, where it stands
+-- (B.1.4.3)
+unfoldable pub qualifier_at : Dialect → Reading (Option Qualifier)
+qualifier_at dialect ts =
+    choice (no_qualifier dialect) (stand (no_qualifier dialect) None) (mapped Some either_qualifier_at) ts
+
+abbrev pub blocked : Option Qualifier × List DeclarationText → BlockText
+blocked (qualifier, ds) = record { qualifier = qualifier; declarations = ds }
+
+-- these, which may stand in one block (B.1.4.3)
+unfoldable pub block_at : Dialect → Reading BlockText
 block_at dialect ts =
     led (past (keyword (block_word dialect)))
-    (closed (many ends_block declaration_at) (past (keyword (codes "END_VAR")))) ts
+    (mapped blocked (pair (past (qualifier_at dialect))
+    (closed (many ends_block declaration_at) (past (keyword (codes "END_VAR")))))) ts
 
 -- ---- programs
 
-abbrev pub named_program : Token × (List (List DeclarationText) × List LineText) → ProgramText
+abbrev pub named_program : Token × (List BlockText × List LineText) → ProgramText
 named_program (name, (blocks, lines)) = record { name = Some name; blocks = blocks; lines = lines }
 
-abbrev pub bare_program : List (List DeclarationText) × List LineText → ProgramText
+abbrev pub bare_program : List BlockText × List LineText → ProgramText
 bare_program (blocks, lines) = record { name = None; blocks = blocks; lines = lines }
 
 unfoldable pub end_at : Reading (Unit {0})

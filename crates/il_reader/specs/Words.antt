@@ -6,7 +6,7 @@ use Rattle.il_model.specs.declared.limits.TheConstants.{LONGEST_NAME}
 use Rattle.il_model.specs.Words.{is_well_spelled}
 use Rattle.il_reader.specs.Tokens.{Token, is_letter_byte, is_word_byte}
 use Rattle.il_reader.specs.Grammar.{LineText, Labelled, Plain, OperationText, NamesText, Located, More, DeclarationText}
-use Rattle.il_reader.specs.Grammar.{ProgramText}
+use Rattle.il_reader.specs.Grammar.{BlockText, ProgramText}
 use Rattle.il_reader.specs.Spelling.{operator_before}
 
 abbrev pub begins_letter : List ℕ → Bool
@@ -47,5 +47,5 @@ IsOperator dialect (Plain o) = IsOperation dialect o
 
 -- the names of declarations and labels are names, and each operation has an operator that takes what stands behind it
 pub record AreWords (dialect : Dialect) (p : ProgramText) : Type 0 where
-  pub blocks : AllByRecursion (AllByRecursion IsWordDeclaration) p.blocks
+  pub blocks : AllByRecursion (λ (b : BlockText). AllByRecursion IsWordDeclaration b.declarations) p.blocks
   pub lines : AllByRecursion (IsOperator dialect) p.lines

@@ -1,13 +1,14 @@
 //! Blocks of declarations (IEC 61131-3:2003, B.1.4.3 and 2.4.3).
 
-ghost use Rattle.std.specs.Prelude.{◌≡◌, List, option_map};
+ghost use Rattle.std.specs.Prelude.{◌≡◌, option_map};
 ghost use Rattle.il_reader.specs.Tokens.{Token, tokens_of, token};
 ghost use Rattle.il_reader.specs.Reading.{Takes};
-ghost use Rattle.il_reader.specs.Grammar.{DeclarationText, names_of, declaration, declarations, ends_names, ends_block};
-ghost use Rattle.il_reader.specs.Grammar.{ends_blocks};
-ghost use Rattle.il_reader.specs.Walk.{name_at, names_at, initial_at, declaration_at, block_at};
+ghost use Rattle.il_reader.specs.Grammar.{DeclarationText, BlockText, names_of, declaration, block_text, ends_names};
+ghost use Rattle.il_reader.specs.Grammar.{ends_block, ends_blocks, no_qualifier};
+ghost use Rattle.il_reader.specs.Walk.{name_at, names_at, initial_at, declaration_at, either_qualifier_at, qualifier_at};
+ghost use Rattle.il_reader.specs.Walk.{block_at};
 
-use crate::contents::{Declaration, Names};
+use crate::contents::{Block, Declaration, Names, Qualifier};
 use crate::dialect::{begins_block, block_word};
 use crate::fault::Failure;
 use crate::lexeme::{Lexeme, Sign, next};
@@ -139,29 +140,70 @@ impl<'a> Listed<'a> for Declarations {
     }
 }
 
+/// Whether no qualifier stands next; one may in an extended text alone.
+fn no_qualifier(dialect: Dialect, bytes: &[u8]) -> bool
+    ensures { result ≡ no_qualifier dialect (tokens_of dialect bytes.now) }
+{
+    let (t, _) = next(dialect, bytes);
+    match dialect {
+        Dialect::Plain => true,
+        Dialect::Extended => !(is_word(b"RETAIN", t) || is_word(b"NON_RETAIN", t)),
+    }
+}
+
+#[tactic(auto, unfolding(crate::specs::Walk::either_qualifier_at))]
+fn either_qualifier(dialect: Dialect, bytes: &[u8]) -> Result<(Qualifier, &[u8]), Failure>
+    ensures { Takes dialect (λ q. q) either_qualifier_at bytes.now result }
+{
+    let (t, _) = next(dialect, bytes);
+    if is_word(b"RETAIN", t) {
+        let rest = past_keyword(dialect, b"RETAIN", bytes)?;
+        Ok((Qualifier::Retain, rest))
+    } else {
+        let rest = past_keyword(dialect, b"NON_RETAIN", bytes)?;
+        Ok((Qualifier::NonRetain, rest))
+    }
+}
+
+/// The qualifier, where one stands next.
+#[tactic(auto, unfolding(crate::specs::Walk::qualifier_at))]
+fn qualifier(dialect: Dialect, bytes: &[u8]) -> Result<(Option<Qualifier>, &[u8]), Failure>
+    ensures { Takes dialect (λ q. q) (qualifier_at dialect) bytes.now result }
+{
+    if no_qualifier(dialect, bytes) {
+        Ok((None, bytes))
+    } else {
+        let (qualifier, rest) = either_qualifier(dialect, bytes)?;
+        Ok((Some(qualifier), rest))
+    }
+}
+
 #[tactic(auto, unfolding(crate::specs::Walk::block_at))]
-fn block(
-    dialect: Dialect,
-    alloc: Global,
-    bytes: &[u8],
-) -> Result<(Vec<Declaration<'_>>, &[u8]), Failure>
-    ensures { Takes dialect (λ xs. declarations xs.items) (block_at dialect) bytes.now result }
+fn block(dialect: Dialect, alloc: Global, bytes: &[u8]) -> Result<(Block<'_>, &[u8]), Failure>
+    ensures { Takes dialect block_text (block_at dialect) bytes.now result }
 {
     let rest = past_keyword(dialect, block_word(dialect), past_breaks(dialect, bytes))?;
-    let (found, rest) = many::<Declarations>(dialect, alloc, rest)?;
+    let (qualifier, rest) = qualifier(dialect, past_breaks(dialect, rest))?;
+    let (declarations, rest) = many::<Declarations>(dialect, alloc, rest)?;
     let rest = past_keyword(dialect, b"END_VAR", past_breaks(dialect, rest))?;
-    Ok((found, rest))
+    Ok((
+        Block {
+            qualifier,
+            declarations,
+        },
+        rest,
+    ))
 }
 
 /// The blocks of declarations of a program.
 pub struct Blocks;
 
 impl<'a> Listed<'a> for Blocks {
-    type Item = Vec<Declaration<'a>>;
+    type Item = Block<'a>;
 
-    ghost Said = { List DeclarationText };
+    ghost Said = { BlockText };
 
-    ghost said = { λ ds. declarations ds.items };
+    ghost said = { block_text };
 
     ghost ends = { ends_blocks };
 
@@ -178,7 +220,7 @@ impl<'a> Listed<'a> for Blocks {
         dialect: Dialect,
         alloc: Global,
         bytes: &'a [u8],
-    ) -> Result<(Vec<Declaration<'a>>, &'a [u8]), Failure> {
+    ) -> Result<(Block<'a>, &'a [u8]), Failure> {
         block(dialect, alloc, bytes)
     }
 }

@@ -91,10 +91,39 @@ pub struct Declaration<'a> {
     pub initial: Option<Lexeme<'a>>,
 }
 
+/// The word behind the one that opens a block of declarations.
+#[derive(Clone, Copy, Debug, PartialEq, Eq)]
+pub enum Qualifier {
+    Retain,
+    NonRetain,
+}
+
+/// A block of declarations, and its qualifier, where it has one.
+#[derive(Drop)]
+pub struct Block<'a> {
+    pub qualifier: Option<Qualifier>,
+    pub declarations: Vec<Declaration<'a>>,
+}
+
+impl<'a> Block<'a> {
+    ghost use Rattle.std.specs.Prelude.{◌≡◌};
+    ghost use Rattle.il_reader.specs.Grammar.{is_retained, block_text};
+
+    /// Whether what it declares is retained.
+    pub fn is_retained(&self) -> bool
+        ensures { result ≡ is_retained (block_text self.now) }
+    {
+        match self.qualifier {
+            Some(Qualifier::Retain) => true,
+            Some(Qualifier::NonRetain) | None => false,
+        }
+    }
+}
+
 /// A program as it is written: its name, where it has one, the blocks of declarations, the instruction lines.
 #[derive(Drop)]
 pub struct Contents<'a> {
     pub name: Option<Lexeme<'a>>,
-    pub blocks: Vec<Vec<Declaration<'a>>>,
+    pub blocks: Vec<Block<'a>>,
     pub lines: Vec<Line<'a>>,
 }

@@ -10,8 +10,8 @@
 //! and gives that one; else the first fault, and where (`specs/FirstFault`): a text over the limit of 2 MiB is too long
 //! at 1:1, any other has its fault at the first token with which no text begins. Each text has one source or one fault,
 //! and never both (`a_text_is_read_or_refused`). A text that begins with VAR_GLOBAL, which no colon follows, is an
-//! extended text: its blocks begin with that word, and it alone may have literals of REAL and the operator words that
-//! came with them (`Source::dialect`).
+//! extended text: its blocks begin with that word, behind which RETAIN or NON_RETAIN may stand, and it alone may have
+//! literals of REAL and the operator words that came with them (`Source::dialect`).
 //!
 //! Only tested: nothing; `texts.rows` and `first_path.rows` of `tests_rows` have texts with their faults.
 #![tactic(auto)]
@@ -33,7 +33,8 @@ mod source;
 mod whole;
 
 pub use contents::{
-    Argument, Behind, Call, Contents, Declaration, Line, Names, Operand, Operation, Operator,
+    Argument, Behind, Block, Call, Contents, Declaration, Line, Names, Operand, Operation,
+    Operator, Qualifier,
 };
 pub use fault::{Fault, FaultKind, ReadError};
 pub use first_fault::{a_text_is_read_or_refused, worked_faults};

@@ -5,7 +5,7 @@ ghost use Rattle.il_reader.specs.Texts.{Reads, Answers};
 ghost use Rattle.il_reader.specs.FirstFault.{IsGiven, TellsFirst, IsTold};
 ghost use Rattle.il_reader.specs.Walk.{source_of};
 
-use crate::contents::{Contents, Declaration, Line};
+use crate::contents::{Block, Contents, Line};
 use crate::dialect::dialect_of;
 use crate::fault::{Failure, Fault, FaultKind, ReadError};
 use crate::place::{Place, place_of};
@@ -36,7 +36,7 @@ pub const TEXT_LIMIT: usize = 2_097_152;
 
 impl<'a> Source<'a> {
     ghost use Rattle.std.specs.Prelude.{map};
-    ghost use Rattle.il_reader.specs.Grammar.{declarations, line, dialect_of};
+    ghost use Rattle.il_reader.specs.Grammar.{block_text, line, dialect_of};
     ghost use Rattle.il_reader.specs.Texts.{place_at, IsSource};
     ghost use Rattle.il_reader.specs.Words.{AreWords};
 
@@ -50,8 +50,8 @@ impl<'a> Source<'a> {
     }
 
     /// The blocks of declarations, in the order of the text.
-    pub fn blocks(&self) -> &[Vec<Declaration<'a>>]
-        ensures { map (λ ds. declarations ds.items) result.now ≡ self.now.says.blocks }
+    pub fn blocks(&self) -> &[Block<'a>]
+        ensures { map block_text result.now ≡ self.now.says.blocks }
     {
         self.contents.blocks.as_slice()
     }

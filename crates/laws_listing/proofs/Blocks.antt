@@ -1,7 +1,6 @@
 -- The listing's declarations are spelled as the grammar has them.
-use Rattle.std.proofs.Common.{◌≡◌, ℕ, Bool, true, false, cond, List, [], ◌∷◌, ◌++◌, Option, Some, None, refl, sym, ap, ◌∙◌, not, append_assoc}
+use Rattle.std.proofs.Common.{◌≡◌, ℕ, Bool, true, false, cond, List, [], ◌∷◌, ◌++◌, Option, Some, None, refl, ap, ◌∙◌, not, append_assoc}
 use Rattle.std.specs.Prelude.{codes}
-use Rattle.std.specs.List.{AllByRecursion, flat_map}
 use Rattle.il_model.specs.declared.dialect.Dialect.{Dialect}
 use Rattle.il_model.specs.declared.value.Value.{Value}
 use Rattle.il_model.specs.declared.program.Loc.{Loc}
@@ -10,18 +9,17 @@ use Rattle.il_model.specs.declared.program.Instance.{Instance}
 use Rattle.il_model.specs.Values.{number_of}
 use Rattle.il_model.specs.Operators.{is_zero}
 use Rattle.il_model.specs.Words.{spells, look, mnemonic_of, is_reserved, is_well_spelled}
+use Rattle.il_model.specs.Image.{may_retain}
 use Rattle.il_model.specs.Kinds.{kind_name}
 use Rattle.il_reader.specs.declared.lexeme.Sign.TheVariants as signs
 use Rattle.il_reader.specs.Tokens.{Token, is_word_end, tokens_of}
 use Rattle.il_reader.specs.Front.{is_sign, is_word_token, next_is}
 use Rattle.il_reader.specs.Grammar.{is_constant, no_value, ends_names, ends_block, DeclarationText}
 use Rattle.il_reader.specs.Spelling.{Part, breaks, ahead, this, sign, name, word, address, Spell, is_not_at, spelled_names, spelled_initial, spelled_declaration, going}
-use Rattle.il_reader.proofs.Laws.{Spell-append}
 use Rattle.il_lister.specs.Listing.{literal_text, location_text, type_name, at_text, initial_text, variable_text, instance_text}
-use Rattle.laws_listing.proofs.Sayable.{IsSayable}
+use Rattle.laws_listing.proofs.Sayable.{newest, IsSayable}
 use Rattle.laws_listing.proofs.NameTexts.{IsName, IsFreeName, not_word, type_is, kind_is, name_by}
-use Rattle.laws_listing.proofs.Written.{token_at, literal_at, written_names, written_initial, ending, written_variable, written_instance, written_variables, written_instances}
-use Rattle.laws_listing.proofs.Declares.{IsListedVariable}
+use Rattle.laws_listing.proofs.Written.{token_at, literal_at, written_names, written_initial, ending, written_variable, written_instance, Declared, OfVariable, OfInstance, retained_of, name_of, text_of, written_declared}
 use Rattle.laws_listing.proofs.Pieces.{name_token, literal_token, location_token, blank_skips, break_token, colon_token, assign_token, semicolon_token}
 use Rattle.laws_listing.proofs.Parts.{Begins, spell_same, spell_this, spell_one, spell_ahead, spell_solid, spell_break, skip_one, skip_none}
 use Rattle.laws_listing.proofs.Arguments.{literal_constant, literal_solid}
@@ -205,29 +203,32 @@ instance_spelled dialect x rest is =
     (ap (λ (u : List ℕ). (tokens_of dialect) (10 ∷ u)) (instance_joined x rest))
     (declaration_spelled dialect x.name None (kind_name x.kind) None [] rest is (kind_is x.kind) (no_initial dialect rest))
 
--- ---- all of them
+-- ---- what is declared, by its kind
 
-abbrev pub parts : List DeclarationText → List Part
-parts ds = flat_map (going ends_block spelled_declaration) ds
+abbrev pub SaysFirst : Dialect → Declared → Type 0
+SaysFirst dialect (OfVariable v) = IsSayable dialect v.initial
+SaysFirst dialect (OfInstance x) = Unit {0}
 
-pub parts_both : (ds es : List DeclarationText) → parts (ds ++ es) ≡ parts ds ++ parts es
-parts_both [] es = refl
-parts_both (d ∷ ds) es = ap (λ (ps : List Part). going ends_block spelled_declaration d ++ ps) (parts_both ds es) ∙ sym (append_assoc (going ends_block spelled_declaration d) (parts ds) (parts es))
+-- one that the text can say: its name is free, its first value can be said, and the dialect can say whether it's retained
+pub record IsSaid (dialect : Dialect) (d : Declared) : Type 0 where
+  pub name : IsFreeName (name_of d)
+  pub first : SaysFirst dialect d
+  pub retained : may_retain (newest dialect) (retained_of d) ≡ true
 
-pub variables_spelled : (dialect : Dialect) (vs : List Variable) (rest : List ℕ) → AllByRecursion (IsListedVariable dialect) vs → Spell (parts (written_variables vs rest)) (tokens_of dialect (10 ∷ (flat_map variable_text vs ++ rest))) (tokens_of dialect (10 ∷ rest))
-variables_spelled dialect [] rest all = refl
-variables_spelled dialect (v ∷ vs) rest all =
-    let u = flat_map variable_text vs ++ rest in
-    let x = written_variable v u in
-    let ps = going ends_block spelled_declaration x ++ parts (written_variables vs rest) in
-    spell_same ps (tokens_of dialect (10 ∷ ((variable_text v ++ flat_map variable_text vs) ++ rest))) (tokens_of dialect (10 ∷ (variable_text v ++ u))) (tokens_of dialect (10 ∷ rest)) (ap (λ (t : List ℕ). (tokens_of dialect) (10 ∷ t)) (append_assoc (variable_text v) (flat_map variable_text vs) rest))
-    (Spell-append (going ends_block spelled_declaration x) (parts (written_variables vs rest)) (tokens_of dialect (10 ∷ (variable_text v ++ u))) (tokens_of dialect (10 ∷ u)) (tokens_of dialect (10 ∷ rest)) (variable_spelled dialect v u all.0.name all.0.value) (variables_spelled dialect vs rest all.1))
+pub declared_spelled : (dialect : Dialect) (d : Declared) (rest : List ℕ) → IsSaid dialect d → Spell (going ends_block spelled_declaration (written_declared d rest)) (tokens_of dialect (10 ∷ (text_of d ++ rest))) (tokens_of dialect (10 ∷ rest))
+declared_spelled dialect (OfVariable v) rest is = variable_spelled dialect v rest is.name is.first
+declared_spelled dialect (OfInstance x) rest is = instance_spelled dialect x rest is.name
 
-pub instances_spelled : (dialect : Dialect) (xs : List Instance) (rest : List ℕ) → AllByRecursion (λ (x : Instance). IsFreeName x.name) xs → Spell (parts (written_instances xs rest)) (tokens_of dialect (10 ∷ (flat_map instance_text xs ++ rest))) (tokens_of dialect (10 ∷ rest))
-instances_spelled dialect [] rest all = refl
-instances_spelled dialect (x ∷ xs) rest all =
-    let u = flat_map instance_text xs ++ rest in
-    let y = written_instance x u in
-    let ps = going ends_block spelled_declaration y ++ parts (written_instances xs rest) in
-    spell_same ps (tokens_of dialect (10 ∷ ((instance_text x ++ flat_map instance_text xs) ++ rest))) (tokens_of dialect (10 ∷ (instance_text x ++ u))) (tokens_of dialect (10 ∷ rest)) (ap (λ (t : List ℕ). (tokens_of dialect) (10 ∷ t)) (append_assoc (instance_text x) (flat_map instance_text xs) rest))
-    (Spell-append (going ends_block spelled_declaration y) (parts (written_instances xs rest)) (tokens_of dialect (10 ∷ (instance_text x ++ u))) (tokens_of dialect (10 ∷ u)) (tokens_of dialect (10 ∷ rest)) (instance_spelled dialect x u all.0) (instances_spelled dialect xs rest all.1))
+-- a text whose first token is this name
+pub record NameFirst (dialect : Dialect) (name text : List ℕ) : Type 0 where
+  pub behind : List ℕ
+  pub begins : Begins (tokens_of dialect text) (token_at signs.Name name behind) (tokens_of dialect behind)
+
+pub name_first : (dialect : Dialect) (d : Declared) (rest : List ℕ) → IsSaid dialect d → NameFirst dialect (name_of d) (text_of d ++ rest)
+name_first dialect (OfVariable v) rest is =
+    let behind = at_text v.location ++ typed (type_name v.ty) (initial_text v.initial) rest in
+    let last = name_ends v.location (58 ∷ 32 ∷ (type_name v.ty ++ (initial_text v.initial ++ ending rest))) in
+    record { behind = behind; begins = record { is = ap (tokens_of dialect) (variable_joined v rest) ∙ name_token dialect v.name behind is.name.name last; solid = refl } }
+name_first dialect (OfInstance x) rest is =
+    let behind = typed (kind_name x.kind) [] rest in
+    record { behind = behind; begins = record { is = ap (tokens_of dialect) (instance_joined x rest) ∙ name_token dialect x.name behind is.name.name refl; solid = refl } }

@@ -1,7 +1,7 @@
 -- The listing's declarations are resolved to the program's own.
-use Rattle.std.proofs.Common.{◌≡◌, ℕ, ◌+◌, ◌<◌, ◌≤◌, Bool, true, false, cond, ltb, List, [], ◌∷◌, ◌++◌, length, Option, Some, None, Result, Ok, Err, refl, sym, ap, ◌∙◌, subst, arith, ◌||◌, not, append_assoc}
-use Rattle.std.specs.Prelude.{is_some, ℤ, pos, negsuc}
-use Rattle.std.specs.List.{AllByRecursion, flat_map}
+use Rattle.std.proofs.Common.{◌≡◌, ℕ, ◌+◌, ◌<◌, ◌≤◌, Bool, true, false, cond, ltb, List, [], ◌∷◌, ◌++◌, length, Option, Some, None, Result, Ok, refl, sym, ap, ◌∙◌, subst, arith, ◌||◌, ◌&&◌, not, append_assoc}
+use Rattle.std.specs.Prelude.{is_some, ℤ, pos, negsuc, map}
+use Rattle.std.specs.List.{AllByRecursion, flat_map, list_any}
 use Rattle.std.proofs.lemmas.List.{length-append, append-nil}
 use Rattle.std.proofs.lemmas.Bool.{lt-leb, ltb-false}
 use Rattle.il_model.specs.declared.dialect.Dialect.{Dialect}
@@ -21,34 +21,39 @@ use Rattle.il_model.specs.Values.{ty_of, zero_of, number_of, typed_value}
 use Rattle.il_model.specs.Operators.{is_zero}
 use Rattle.il_model.specs.Words.{spells, is_lawful_name}
 use Rattle.il_model.specs.Kinds.{kind_name}
-use Rattle.il_model.specs.Locations.{area_of}
+use Rattle.il_model.specs.declared.program.Area.{Area}
+use Rattle.il_model.specs.Locations.{area_of, seen_as}
+use Rattle.il_model.proofs.WrittenLocations.{seen_again, parts_seen, area_seen}
 use Rattle.std.specs.Option.{option_and_then}
 use Rattle.il_model.specs.declared.coded_operand.CodedOperand.{CodedOperand}
 use Rattle.il_model.specs.declared.coded_operand.CodedOperand.TheVariants as coded
 use Rattle.il_model.specs.CodedOperands.{loc_code, IsCell, HasOwnCode, with_code}
 use Rattle.il_model.proofs.CodedOperands.{coded_back}
-use Rattle.il_model.specs.Image.{location_code, type_version, value_version, may_have, may_declare}
+use Rattle.il_model.specs.Image.{location_code, type_version, value_version, location_version, may_have, may_lie, may_retain, may_declare, may_instantiate}
 use Rattle.il_model.specs.Typing.{loc_type, is_writable_area}
 use Rattle.il_model.specs.Resolved.{instance_in}
-use Rattle.il_model.specs.Codes.{is_number, is_new_name, is_taken, is_type, is_free, may_start_with}
+use Rattle.il_model.specs.Codes.{is_number, is_new_name, is_taken, is_overlapped, is_type, is_free, may_start_with}
 use Rattle.il_model.specs.Codes as codes_of
 use Rattle.il_model.specs.Fits.{IsVariable, IsInstance, AreItems}
 use Rattle.il_model.proofs.RealValues.{real_same}
-use Rattle.il_reader.specs.Grammar.{dialect_of}
+use Rattle.il_reader.specs.Grammar.{DeclarationText, BlockText, says_retained, dialect_of}
 use Rattle.il_reader.specs.declared.lexeme.Sign.TheVariants as signs
 use Rattle.il_declarations.specs.declared.fault.FaultAt.{FaultAt}
 use Rattle.il_declarations.specs.declared.variables.DeclaredType.{DeclaredType}
 use Rattle.il_declarations.specs.declared.variables.DeclaredType.TheVariants.{Elementary, Block}
 use Rattle.il_declarations.specs.Resolution.{declared_type, same_type, is_input, written_value, variable}
-use Rattle.il_declarations.specs.Walk.{◌>>=◌, each, nothing, has_name, has_instance, is_full, new_name, free_location, elementary_value, planned_value, with_variable, with_instance, declare_name, declare_located, declare_listed, declare, declare_block, program_at, told, resolution_of}
-use Rattle.il_lister.specs.Listing.{location_text, type_name, variable_text, instance_text}
+use Rattle.il_declarations.specs.Declaring.{BlockDeclaration, in_block, declarations_in}
+use Rattle.il_declarations.proofs.Agreeing.{each_flat}
+use Rattle.il_declarations.specs.Walk.{each, nothing, has_name, has_instance, is_full, new_name, free_location, elementary_value, planned_value, with_variable, with_instance, declare_name, declare_located, declare_listed, declare, declare_block, program_at, told, resolution_of}
+use Rattle.il_reader.specs.declared.contents.Qualifier.TheVariants as qualifiers
+use Rattle.il_lister.specs.Listing.{location_text, type_name, is_qualifier, first_retained, first_name}
 use Rattle.laws_listing.proofs.Fronts.{both_true, not_true}
 use Rattle.laws_listing.proofs.Sayable.{newest, IsSayable, IsSayableProgram}
 use Rattle.laws_listing.proofs.LiteralTexts.{literal_again}
 use Rattle.laws_listing.proofs.LocationTexts.{location_again}
 use Rattle.laws_listing.proofs.NameTexts.{IsFreeName, lawful_free, capital}
 use Rattle.laws_listing.proofs.Listable.{variable_free, items_all, some_is, if_some, tested_is, IsOfType, of_type, all_of_both, listable}
-use Rattle.laws_listing.proofs.Written.{token_at, literal_at, written_initial, written_variable, written_instance, written_variables, written_instances, written_block, end_text, written}
+use Rattle.laws_listing.proofs.Written.{token_at, literal_at, written_initial, written_variable, written_instance, Declared, retained_of, name_of, written_declared, of_instances, all_declared, both_alike, declared_text, written_qualifier, written_open, written_sections, end_text, declared_of, begins_retained, first_qualifier, written_blocks, written}
 use Rattle.laws_listing.proofs.Resolves.{lines_back}
 
 -- ---- first values
@@ -176,7 +181,7 @@ kind_back dialects.Extended kind = extended_kind kind
 record IsLocated (seen : List Variable) (type : Ty) (loc : Loc) : Type 0 where
   place : IsCell loc
   suits : is_type type (loc_type loc) ≡ true
-  free : is_taken seen (loc_code loc) ≡ false
+  free : is_overlapped seen loc ≡ false
 
 located_is : (seen : List Variable) (type : Ty) (loc : Loc) → codes_of.coded_location seen type (loc_code loc) ≡ Some (Some loc) → IsLocated seen type loc
 located_is seen type loc e = by_code (with_code (loc_code loc)) refl e
@@ -186,8 +191,8 @@ located_is seen type loc e = by_code (with_code (loc_code loc)) refl e
         let m = if_some (is_free seen type l) (Some l) (Some loc) h in
         let same : l ≡ loc = some_is l loc m.1 in
         let free : is_free seen type loc ≡ true = subst (λ (k : Loc). is_free seen type k ≡ true) same m.0 in
-        let a = both_true (is_type type (loc_type loc)) (not (is_taken seen (loc_code loc))) free in
-        record { place = subst IsCell same own; suits = a.0; free = not_true (is_taken seen (loc_code loc)) a.1 }
+        let a = both_true (is_type type (loc_type loc)) (not (is_overlapped seen loc)) free in
+        record { place = subst IsCell same own; suits = a.0; free = not_true (is_overlapped seen loc) a.1 }
     by_operand (coded.Variable i) own h = absurd cc
     by_operand (coded.Field i n) own h = absurd cc
     by_operand (coded.Constant k) own h = absurd cc
@@ -197,8 +202,20 @@ located_is seen type loc e = by_code (with_code (loc_code loc)) refl e
     by_code None f h = absurd cc
     by_code (Some x) f h = by_operand x (coded_back (loc_code loc) x f).own h
 
-location_back : (known : Declarations) (type : Ty) (loc : Loc) (rest : List ℕ) → IsLocated known.variables type loc → free_location (Some (Elementary type)) known (token_at signs.Address (location_text loc) rest) ≡ Ok loc
-location_back known type loc rest is = rw (location_again loc is.place, is.suits, is.free) refl
+-- a double word is read as DINT, and its declaration makes it the variable's type
+location_back : (dialect : Dialect) (known : Declarations) (type : Ty) (loc : Loc) (rest : List ℕ) → IsLocated known.variables type loc → may_have (newest dialect) (location_version loc) ≡ true
+    → free_location dialect (Some (Elementary type)) known (token_at signs.Address (location_text loc) rest) ≡ Ok (seen_as types.Dint loc)
+location_back dialect known type loc rest is may =
+    let suits : is_type type (loc_type (seen_as type (seen_as types.Dint loc))) ≡ true = ap (λ (l : Loc). is_type type (loc_type l)) (seen_again type loc is.suits) ∙ is.suits in
+    let free : is_overlapped known.variables (seen_as types.Dint loc) ≡ false = ap (λ (parts : List Loc). list_any (λ (part : Loc). is_taken known.variables (loc_code part)) parts) (parts_seen types.Dint loc) ∙ is.free in
+    rw (location_again dialect loc is.place may, suits, free) refl
+
+first_seen : (dialect : Dialect) (type : Ty) (loc : Loc) (v : Value) → IsFirst dialect type (Some loc) v → IsFirst dialect type (Some (seen_as types.Dint loc)) v
+first_seen dialect type loc v first = record {
+  of = first.of;
+  known = first.known;
+  may = ap (λ (a : Area). is_writable_area a || is_zero (number_of v)) (area_seen types.Dint loc) ∙ first.may;
+}
 
 -- ---- variables and instances
 
@@ -207,38 +224,51 @@ record IsNew (known : Declarations) (name : List ℕ) : Type 0 where
   no_variable : has_name known name ≡ false
   no_instance : has_instance known name ≡ false
 
-located_back : (dialect : Dialect) (known : Declarations) (name : List ℕ) (type : Ty) (loc : Loc) (v : Value) (rest : List ℕ) → IsNew known name → is_full (Some (Elementary type)) known ≡ false → IsLocated known.variables type loc → IsFirst dialect type (Some loc) v
-    → declare dialect known (written_variable (variable name type (Some loc) v) rest) ≡ Ok (with_variable known (variable name type (Some loc) v))
+located_back : (dialect : Dialect) (retained : Bool) (known : Declarations) (name : List ℕ) (type : Ty) (loc : Loc) (v : Value) (rest : List ℕ) → IsNew known name → is_full (Some (Elementary type)) known ≡ false → IsLocated known.variables type loc → may_have (newest dialect) (location_version loc) ≡ true → IsFirst dialect type (Some loc) v
+    → declare dialect known (in_block retained (written_variable (variable retained name type (Some loc) v) rest)) ≡ Ok (with_variable known (variable retained name type (Some loc) v))
 unfolding declare_located
-located_back dialect known name type loc v rest new few at first =
-    let d = written_variable (variable name type (Some loc) v) rest in
-    rw (type_back dialect type first.known, new_back (Some (Elementary type)) known name _ new.free new.no_variable new.no_instance few, location_back known type loc _ at, initial_back dialect type (Some loc) v _ first) refl
+located_back dialect retained known name type loc v rest new few at may first =
+    rw (type_back dialect type first.known, new_back (Some (Elementary type)) known name _ new.free new.no_variable new.no_instance few, location_back dialect known type loc _ at may, initial_back dialect type (Some (seen_as types.Dint loc)) v _ (first_seen dialect type loc v first), seen_again type loc at.suits) refl
 
-listed_back : (dialect : Dialect) (known : Declarations) (name : List ℕ) (type : Ty) (v : Value) (rest : List ℕ) → IsNew known name → is_full (Some (Elementary type)) known ≡ false → IsFirst dialect type None v
-    → declare dialect known (written_variable (variable name type None v) rest) ≡ Ok (with_variable known (variable name type None v))
+listed_back : (dialect : Dialect) (retained : Bool) (known : Declarations) (name : List ℕ) (type : Ty) (v : Value) (rest : List ℕ) → IsNew known name → is_full (Some (Elementary type)) known ≡ false → IsFirst dialect type None v
+    → declare dialect known (in_block retained (written_variable (variable retained name type None v) rest)) ≡ Ok (with_variable known (variable retained name type None v))
 unfolding declare_listed declare_name each
-listed_back dialect known name type v rest new few first =
+listed_back dialect retained known name type v rest new few first =
     rw (type_back dialect type first.known, new_back (Some (Elementary type)) known name _ new.free new.no_variable new.no_instance few, initial_back dialect type None v _ first, planned_back dialect type v _ first) refl
 
-instance_back : (dialect : Dialect) (known : Declarations) (x : Instance) (rest : List ℕ) → IsNew known x.name → is_full (Some (Block x.kind)) known ≡ false → declare dialect known (written_instance x rest) ≡ Ok (with_instance known x)
+instance_back : (dialect : Dialect) (known : Declarations) (x : Instance) (rest : List ℕ) → IsNew known x.name → is_full (Some (Block x.kind)) known ≡ false → declare dialect known (in_block x.retained (written_instance x rest)) ≡ Ok (with_instance known x)
 unfolding declare_listed declare_name each
 instance_back dialect known x rest new few =
     rw (kind_back dialect x.kind, new_back (Some (Block x.kind)) known x.name _ new.free new.no_variable new.no_instance few) refl
 
--- a declared variable: a name, a value that can be said, and a location that is there
+-- a declared variable: a name, a value that can be said, a location that is there, and a dialect in which it may be retained
 pub record IsListedVariable (dialect : Dialect) (v : Variable) : Type 0 where
   pub name : IsFreeName v.name
   pub value : IsSayable dialect v.initial
   pub place : (loc : Loc) → v.location ≡ Some loc → IsCell loc
+  pub retained : may_retain (newest dialect) v.retained ≡ true
 
-type_had : (dialect : Dialect) (v : Variable) → may_declare (newest dialect) v ≡ true → may_have (newest dialect) (type_version v.ty) ≡ true
-type_had dialect v may = (both_true (may_have (newest dialect) (type_version v.ty)) (may_have (newest dialect) (value_version v.initial)) may).0
+-- what a version may have of a variable
+record IsHad (dialect : Dialect) (v : Variable) : Type 0 where
+  type : may_have (newest dialect) (type_version v.ty) ≡ true
+  place : may_lie (newest dialect) v.location ≡ true
+  retained : may_retain (newest dialect) v.retained ≡ true
+
+had : (dialect : Dialect) (v : Variable) → may_declare (newest dialect) v ≡ true → IsHad dialect v
+had dialect v may =
+    let lies = may_lie (newest dialect) v.location in
+    let retained = may_retain (newest dialect) v.retained in
+    let a = both_true (may_have (newest dialect) (type_version v.ty)) (may_have (newest dialect) (value_version v.initial) && (lies && retained)) may in
+    let b = both_true (may_have (newest dialect) (value_version v.initial)) (lies && retained) a.1 in
+    let c = both_true lies retained b.1 in
+    record { type = a.0; place = c.0; retained = c.1 }
 
 variable_listed : (dialect : Dialect) (seen : List Variable) (v : Variable) → IsVariable seen v → may_declare (newest dialect) v ≡ true → IsListedVariable dialect v
 variable_listed dialect seen v is may = record {
   name = variable_free seen v is;
-  value = first_said dialect v.ty v.location v.initial (first_is dialect v.ty v.location v.initial is.initial (type_had dialect v may));
+  value = first_said dialect v.ty v.location v.initial (first_is dialect v.ty v.location v.initial is.initial (had dialect v may).type);
   place = by_location v.location is.location;
+  retained = (had dialect v may).retained;
 }
   where
     by_location : (o : Option Loc) → codes_of.coded_location seen v.ty (location_code o) ≡ Some o → (loc : Loc) → o ≡ Some loc → IsCell loc
@@ -256,41 +286,31 @@ variables_listed dialect Q is =
 abbrev known_as : List Variable → List Instance → Declarations
 known_as vs xs = record { variables = vs; instances = xs }
 
-abbrev done : {A : Type 0} → A → Result A FaultAt
-done x = Ok x
-
-done_is : {A : Type 0} (x y : A) → done x ≡ done y → x ≡ y
-done_is x y e = cc
-
--- the first part and then the second
-each_both : {X Y : Type 0} (step : Y → X → Result Y FaultAt) (y z : Y) (xs ys : List X) → each step y xs ≡ Ok z → each step y (xs ++ ys) ≡ each step z ys
-unfolding each
-each_both step y z [] ys e = ap (λ w. each step w ys) (done_is y z e)
-each_both {X} {Y} step y z (x ∷ xs) ys e = by_step (step y x) (λ w. each_both step w z xs ys) e
-  where
-    by_step : (r : Result Y FaultAt) → ((w : Y) → each step w xs ≡ Ok z → each step w (xs ++ ys) ≡ each step z ys) → (r >>= λ w. each step w xs) ≡ Ok z → (r >>= λ w. each step w (xs ++ ys)) ≡ each step z ys
-    by_step (Ok w) again h = again w h
-    by_step (Err f) again h = absurd cc
-
 new_variable : (seen : List Variable) (v : Variable) → IsVariable seen v → IsNew (known_as seen []) v.name
 new_variable seen v is =
     let h = both_true (is_lawful_name v.name) (not (is_some (is_number seen v.name))) is.name in
     record { free = lawful_free v.name is.length h.0; no_variable = not_true (is_some (is_number seen v.name)) h.1; no_instance = refl }
 
-variable_by : (dialect : Dialect) (seen : List Variable) (name : List ℕ) (type : Ty) (o : Option Loc) (v : Value) (rest : List ℕ) → IsVariable seen (variable name type o v) → may_have (newest dialect) (type_version type) ≡ true → length seen < 512
-    → declare dialect (known_as seen []) (written_variable (variable name type o v) rest) ≡ Ok (known_as (seen ++ variable name type o v ∷ []) [])
-variable_by dialect seen name type None v rest is known few =
-    listed_back dialect (known_as seen []) name type v rest (new_variable seen (variable name type None v) is) (lt-leb 512 (length seen) few) (first_is dialect type None v is.initial known)
-variable_by dialect seen name type (Some loc) v rest is known few =
-    located_back dialect (known_as seen []) name type loc v rest (new_variable seen (variable name type (Some loc) v) is) (lt-leb 512 (length seen) few) (located_is seen type loc is.location) (first_is dialect type (Some loc) v is.initial known)
+-- the declarations that the listing writes, each with what its block says
+abbrev written_in_blocks : List Declared → List ℕ → List BlockDeclaration
+written_in_blocks [] rest = []
+written_in_blocks (d ∷ ds) rest = in_block (retained_of d) (written_declared d (declared_text (retained_of d) ds rest)) ∷ written_in_blocks ds rest
 
-variables_back : (dialect : Dialect) (seen vs : List Variable) (rest : List ℕ) → AreItems IsVariable seen vs → AllByRecursion (λ (v : Variable). may_declare (newest dialect) v ≡ true) vs → length seen + length vs ≤ 512
-    → each (declare dialect) (known_as seen []) (written_variables vs rest) ≡ Ok (known_as (seen ++ vs) [])
+variable_by : (dialect : Dialect) (seen : List Variable) (retained : Bool) (name : List ℕ) (type : Ty) (o : Option Loc) (v : Value) (rest : List ℕ) → IsVariable seen (variable retained name type o v) → may_have (newest dialect) (type_version type) ≡ true → may_lie (newest dialect) o ≡ true → length seen < 512
+    → declare dialect (known_as seen []) (in_block retained (written_variable (variable retained name type o v) rest)) ≡ Ok (known_as (seen ++ variable retained name type o v ∷ []) [])
+variable_by dialect seen retained name type None v rest is known lies few =
+    listed_back dialect retained (known_as seen []) name type v rest (new_variable seen (variable retained name type None v) is) (lt-leb 512 (length seen) few) (first_is dialect type None v is.initial known)
+variable_by dialect seen retained name type (Some loc) v rest is known lies few =
+    located_back dialect retained (known_as seen []) name type loc v rest (new_variable seen (variable retained name type (Some loc) v) is) (lt-leb 512 (length seen) few) (located_is seen type loc is.location) lies (first_is dialect type (Some loc) v is.initial known)
+
+variables_back : (dialect : Dialect) (seen vs : List Variable) (xs : List Instance) (rest : List ℕ) → AreItems IsVariable seen vs → AllByRecursion (λ (v : Variable). may_declare (newest dialect) v ≡ true) vs → length seen + length vs ≤ 512
+    → each (declare dialect) (known_as seen []) (written_in_blocks (all_declared vs xs) rest) ≡ each (declare dialect) (known_as (seen ++ vs) []) (written_in_blocks (of_instances xs) rest)
 unfolding each
-variables_back dialect seen [] rest all known few = rw (append-nil seen) refl
-variables_back dialect seen (v ∷ vs) rest all known few =
-    rw (variable_by dialect seen v.name v.ty v.location v.initial (flat_map variable_text vs ++ rest) all.0 (type_had dialect v known.0) (omega (arith, few)))
-    (variables_back dialect (seen ++ v ∷ []) vs rest all.1 known.1 (omega (arith, few, length-append seen (v ∷ []))) ∙ rw (append_assoc seen (v ∷ []) vs) refl)
+variables_back dialect seen [] xs rest all known few = rw (append-nil seen) refl
+variables_back dialect seen (v ∷ vs) xs rest all known few =
+    let has = had dialect v known.0 in
+    rw (variable_by dialect seen v.retained v.name v.ty v.location v.initial (declared_text v.retained (all_declared vs xs) rest) all.0 has.type has.place (omega (arith, few)))
+    (variables_back dialect (seen ++ v ∷ []) vs xs rest all.1 known.1 (omega (arith, few, length-append seen (v ∷ []))) ∙ rw (append_assoc seen (v ∷ []) vs) refl)
 
 new_instance : (vs : List Variable) (seen : List Instance) (x : Instance) → IsInstance vs seen x → IsNew (known_as vs seen) x.name
 new_instance vs seen x is =
@@ -298,27 +318,83 @@ new_instance vs seen x is =
     let h = both_true (is_lawful_name x.name) (not (is_some (is_number vs x.name))) new.0 in
     record { free = lawful_free x.name is.length h.0; no_variable = not_true (is_some (is_number vs x.name)) h.1; no_instance = not_true (is_some (instance_in seen x.name)) new.1 }
 
-instances_back : (dialect : Dialect) (vs : List Variable) (seen xs : List Instance) (rest : List ℕ) → AreItems (IsInstance vs) seen xs → length seen + length xs ≤ 128 → each (declare dialect) (known_as vs seen) (written_instances xs rest) ≡ Ok (known_as vs (seen ++ xs))
+instances_back : (dialect : Dialect) (vs : List Variable) (seen xs : List Instance) (rest : List ℕ) → AreItems (IsInstance vs) seen xs → length seen + length xs ≤ 128 → each (declare dialect) (known_as vs seen) (written_in_blocks (of_instances xs) rest) ≡ Ok (known_as vs (seen ++ xs))
 unfolding each
 instances_back dialect vs seen [] rest all few = rw (append-nil seen) refl
 instances_back dialect vs seen (x ∷ xs) rest all few =
-    rw (instance_back dialect (known_as vs seen) x (flat_map instance_text xs ++ rest) (new_instance vs seen x all.0) (lt-leb 128 (length seen) (omega (arith, few))))
+    rw (instance_back dialect (known_as vs seen) x (declared_text x.retained (of_instances xs) rest) (new_instance vs seen x all.0) (lt-leb 128 (length seen) (omega (arith, few))))
     (instances_back dialect vs (seen ++ x ∷ []) xs rest all.1 (omega (arith, few, length-append seen (x ∷ []))) ∙ rw (append_assoc seen (x ∷ []) xs) refl)
 
-block_back : (dialect : Dialect) (Q : Program) → IsSayableProgram dialect Q → declare_block dialect nothing (written_block Q) ≡ Ok (declared_by Q)
-block_back dialect Q is =
-    let text = is.image.text in
-    let rest = flat_map instance_text Q.instances ++ end_text Q in
-    let first = variables_back dialect [] Q.variables rest text.variables is.variables (let few = text.variables_few in omega (arith, few)) in
-    each_both (declare dialect) nothing (known_as Q.variables []) (written_variables Q.variables rest) (written_instances Q.instances (end_text Q)) first
-    ∙ instances_back dialect Q.variables [] Q.instances (end_text Q) text.instances (let few = text.instances_few in omega (arith, few))
+-- ---- by blocks
 
-program_back : (dialect : Dialect) (Q : Program) → IsSayableProgram dialect Q → program_at dialect (written Q) ≡ Ok Q
-unfolding program_at each
+said_by : (b : Bool) → says_retained (cond b (Some qualifiers.NonRetain) None) ≡ false
+said_by true = refl
+said_by false = refl
+
+qualifier_says : (retained : Bool) (name : List ℕ) → says_retained (written_qualifier retained name) ≡ retained
+qualifier_says true name = refl
+qualifier_says false name = said_by (is_qualifier name)
+
+-- the open section's, and those of the sections behind it
+abbrev in_sections : Bool → List DeclarationText → List BlockText → List BlockDeclaration
+in_sections before ds bs = map (in_block before) ds ++ flat_map declarations_in bs
+
+turn_said : (before retained : Bool) (name : List ℕ) (d : DeclarationText) (ds : List DeclarationText) (bs : List BlockText)
+    → in_sections before (cond (both_alike before retained) (d ∷ ds) []) (cond (both_alike before retained) bs (record { qualifier = written_qualifier retained name; declarations = d ∷ ds } ∷ bs)) ≡ in_block retained d ∷ in_sections retained ds bs
+turn_said true true name d ds bs = refl
+turn_said false false name d ds bs = refl
+turn_said true false name d ds bs = ap (λ (b : Bool). map (in_block b) (d ∷ ds) ++ flat_map declarations_in bs) (qualifier_says false name)
+turn_said false true name d ds bs = refl
+
+sections_said : (before : Bool) (ds : List Declared) (rest : List ℕ) → in_sections before (written_open before ds rest) (written_sections before ds rest) ≡ written_in_blocks ds rest
+sections_said before [] rest = refl
+sections_said before (d ∷ ds) rest =
+    let r = retained_of d in
+    let x = written_declared d (declared_text r ds rest) in
+    turn_said before r (name_of d) x (written_open r ds rest) (written_sections r ds rest) ∙ ap (λ (xs : List BlockDeclaration). in_block r x ∷ xs) (sections_said r ds rest)
+
+instances_plain : (xs : List Instance) → AllByRecursion (λ (x : Instance). may_instantiate (newest dialects.Plain) x ≡ true) xs → first_retained [] xs ≡ false
+instances_plain [] may = refl
+instances_plain (x ∷ xs) may = plain_so x.retained may.0
+  where
+    plain_so : (b : Bool) → may_retain (newest dialects.Plain) b ≡ true → b ≡ false
+    plain_so true e = absurd cc
+    plain_so false e = refl
+
+all_plain : (vs : List Variable) (xs : List Instance) → AllByRecursion (λ (v : Variable). may_declare (newest dialects.Plain) v ≡ true) vs → AllByRecursion (λ (x : Instance). may_instantiate (newest dialects.Plain) x ≡ true) xs → first_retained vs xs ≡ false
+all_plain [] xs known may = instances_plain xs may
+all_plain (v ∷ vs) xs known may = plain_so v.retained (had dialects.Plain v known.0).retained
+  where
+    plain_so : (b : Bool) → may_retain (newest dialects.Plain) b ≡ true → b ≡ false
+    plain_so true e = absurd cc
+    plain_so false e = refl
+
+first_says : (dialect : Dialect) (Q : Program) → IsSayableProgram dialect Q → says_retained (first_qualifier dialect Q) ≡ begins_retained Q
+first_says dialects.Plain Q is = sym (all_plain Q.variables Q.instances is.variables is.instances)
+first_says dialects.Extended Q is = qualifier_says (begins_retained Q) (first_name Q.variables Q.instances)
+
+blocks_said : (dialect : Dialect) (Q : Program) → IsSayableProgram dialect Q → flat_map declarations_in (written_blocks dialect Q) ≡ written_in_blocks (declared_of Q) (end_text Q)
+blocks_said dialect Q is =
+    let b = begins_retained Q in
+    let ds = written_open b (declared_of Q) (end_text Q) in
+    let bs = written_sections b (declared_of Q) (end_text Q) in
+    ap (λ (r : Bool). in_sections r ds bs) (first_says dialect Q is) ∙ sections_said b (declared_of Q) (end_text Q)
+
+blocks_back : (dialect : Dialect) (Q : Program) → IsSayableProgram dialect Q → each (declare_block dialect) nothing (written_blocks dialect Q) ≡ Ok (declared_by Q)
+blocks_back dialect Q is =
+    let text = is.image.text in
+    let first = variables_back dialect [] Q.variables Q.instances (end_text Q) text.variables is.variables (let few = text.variables_few in omega (arith, few)) in
+    let second = instances_back dialect Q.variables [] Q.instances (end_text Q) text.instances (let few = text.instances_few in omega (arith, few)) in
+    each_flat (declare dialect) declarations_in nothing (written_blocks dialect Q)
+    ∙ ap (each (declare dialect) nothing) (blocks_said dialect Q is)
+    ∙ first ∙ second
+
+program_back : (dialect : Dialect) (Q : Program) → IsSayableProgram dialect Q → program_at dialect (written dialect Q) ≡ Ok Q
+unfolding program_at
 program_back dialect Q is =
     let lines = listable dialect Q is in
-    rw (block_back dialect Q is, lines_back dialect (declared_by Q) [] Q.code lines.lines (let few = is.image.short in omega (arith, few))) refl
+    rw (blocks_back dialect Q is, lines_back dialect (declared_by Q) [] Q.code lines.lines (let few = is.image.short in omega (arith, few))) refl
 
 -- whatever the text is that says so in that dialect
-pub resolves : (dialect : Dialect) (Q : Program) (text : List ℕ) → dialect_of text ≡ dialect → IsSayableProgram dialect Q → resolution_of (record { text = text; says = written Q }) ≡ Ok Q
-resolves dialect Q text told_so is = ap (λ (d : Dialect). told text (program_at d (written Q))) told_so ∙ ap (told text) (program_back dialect Q is)
+pub resolves : (dialect : Dialect) (Q : Program) (text : List ℕ) → dialect_of text ≡ dialect → IsSayableProgram dialect Q → resolution_of (record { text = text; says = written dialect Q }) ≡ Ok Q
+resolves dialect Q text told_so is = ap (λ (d : Dialect). told text (program_at d (written dialect Q))) told_so ∙ ap (told text) (program_back dialect Q is)

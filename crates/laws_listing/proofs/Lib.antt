@@ -17,6 +17,7 @@ pub mod Arguments
 pub mod Operations
 pub mod Lines
 pub mod Blocks
+pub mod Sections
 pub mod Says
 pub mod Short
 pub mod ReadBack

@@ -1,7 +1,7 @@
 -- What a program that has an image is made of, as far as its listing goes: names, values and places that are there, and operators that take what they are given.
 use Rattle.std.proofs.Common.{◌≡◌, ℕ, zero, suc, ◌+◌, Bool, true, false, cond, ltb, List, [], ◌∷◌, ◌++◌, length, Option, Some, None, refl, sym, ap, ◌∙◌, subst, ◌||◌, not}
-use Rattle.std.specs.Prelude.{is_some, slice_get, nat_eq, ◌^◌, ℤ, pos, negsuc}
-use Rattle.std.specs.List.{AllByRecursion, position}
+use Rattle.std.specs.Prelude.{is_some, slice_get, nat_eq, ◌^◌, ℤ, pos, negsuc, map}
+use Rattle.std.specs.List.{AllByRecursion, list_all, position}
 use Rattle.std.specs.Option.{option_map, option_and_then}
 use Rattle.std.proofs.lemmas.Slice.Eq.{bytes_eq-Decides}
 use Rattle.il_model.specs.declared.dialect.Dialect.{Dialect}
@@ -29,8 +29,9 @@ use Rattle.il_model.specs.Kinds.{kind_fields, field_name, field_number}
 use Rattle.il_model.specs.Resolved.{variable_place, place_of, source_of, instance_in, numbered_field, field_of, has_label, target_of, called_kind}
 use Rattle.il_model.specs.Checking.{arguments_fault}
 use Rattle.il_model.specs.Marks.{Mark, with_mark, marks_from, word_count}
-use Rattle.il_model.specs.Constants.{constants_of}
-use Rattle.il_model.specs.Image.{modifier_code, operand_code, may_keep, may_write}
+use Rattle.il_model.specs.Constants.{constants_of, operands_in}
+use Rattle.il_model.specs.Image.{modifier_code, operand_code, op_version, may_have, may_keep, may_name, may_write}
+use Rattle.il_model.specs.Locations.{is_nameable}
 use Rattle.il_model.specs.declared.coded_operand.CodedOperand.{CodedOperand}
 use Rattle.il_model.specs.declared.coded_operand.CodedOperand.TheVariants as coded
 use Rattle.il_model.specs.CodedOperands.{IsCell, HasOwnCode, with_code}
@@ -46,7 +47,7 @@ use Rattle.il_declarations.specs.Walk.{has_name, has_instance}
 use Rattle.laws_listing.proofs.Fronts.{both_true}
 use Rattle.il_model.proofs.LiteralLaws.{IsValue}
 use Rattle.il_model.proofs.RealValues.{real_is, real_again}
-use Rattle.laws_listing.proofs.Sayable.{newest, IsSayable, IsSayableProgram}
+use Rattle.laws_listing.proofs.Sayable.{newest, IsSayable, IsSayablePlace, IsSayableProgram}
 use Rattle.laws_listing.proofs.NameTexts.{IsFreeName, IsFieldName, lawful_free, field_is}
 
 -- ---- what is listed
@@ -55,7 +56,7 @@ use Rattle.laws_listing.proofs.NameTexts.{IsFreeName, IsFieldName, lawful_free, 
 abbrev pub IsValueOperand : (dialect : Dialect) → Declarations → Operand → Type 0
 IsValueOperand dialect ds (operands.Literal v) = IsSayable dialect v
 IsValueOperand dialect ds (operands.Variable name) = IsFreeName name × (has_name ds name ≡ true)
-IsValueOperand dialect ds (operands.Direct loc) = IsCell loc
+IsValueOperand dialect ds (operands.Direct loc) = IsSayablePlace dialect loc
 IsValueOperand dialect ds (operands.Field name field) = IsFreeName name × IsFieldName field × (has_instance ds name ≡ true)
 IsValueOperand dialect ds operand = ⊥
 
@@ -76,7 +77,7 @@ IsListedLabel (Some name) = IsFreeName name
 
 pub record IsListedLine (dialect : Dialect) (ds : Declarations) (line : Instr) : Type 0 where
   pub label : IsListedLabel line.label
-  pub known : may_write (newest dialect) line ≡ true
+  pub known : may_have (newest dialect) (op_version line.op) ≡ true
   pub letters : allowed_by (usage_of line.op) line.modifier ≡ true
   pub form : formed_by (usage_of line.op) line.modifier line.operand ≡ true
   pub operand : IsListedOperand dialect ds line.operand
@@ -157,7 +158,7 @@ found_label (line ∷ code) name i e all = by_test (has_label name line) refl (�
 -- what is read from a number has a value that can be said, or a place that is there
 abbrev IsRead : (dialect : Dialect) → Operand → Type 0
 IsRead dialect (operands.Literal v) = IsSayable dialect v
-IsRead dialect (operands.Direct loc) = IsCell loc
+IsRead dialect (operands.Direct loc) = IsCell loc × (is_nameable loc ≡ true)
 IsRead dialect operand = Unit {0}
 
 variable_read : (dialect : Dialect) (x : Option Variable) (o : Operand) → variable_named x ≡ Some o → IsRead dialect o
@@ -179,8 +180,14 @@ literal_read dialect v o all e =
     let m = map_is v operands.Literal o e in
     subst (IsRead dialect) m.2 (all m.0 m.1)
 
+if_named : (b : Bool) (x y : Operand) → (let o : Option Operand = cond b (Some x) None in o ≡ Some y) → (b ≡ true) × (x ≡ y)
+if_named true x y e = (refl, some_is x y e)
+if_named false x y e = absurd cc
+
 named_read : (dialect : Dialect) (ds : Declarations) (constants : List Value) (x : CodedOperand) (o : Operand) → AllByRecursion (IsSayable dialect) constants → HasOwnCode x → named_operand ds constants x ≡ Some o → IsRead dialect o
-named_read dialect ds constants (coded.Location loc) o all own e = subst (IsRead dialect) (some_is (operands.Direct loc) o e) own
+named_read dialect ds constants (coded.Location loc) o all own e =
+    let m = if_named (is_nameable loc) (operands.Direct loc) o e in
+    subst (IsRead dialect) m.1 (own, m.0)
 named_read dialect ds constants (coded.Variable i) o all own e = variable_read dialect (slice_get ds.variables i) o e
 named_read dialect ds constants (coded.Field i n) o all own e = field_read dialect (slice_get ds.instances i) n o e
 named_read dialect ds constants (coded.Constant k) o all own e = literal_read dialect (slice_get constants k) o (λ w there. all_there (IsSayable dialect) constants k w there all) e
@@ -275,47 +282,49 @@ stands_for Q (operands.Instance name) src has e =
     let m = map_is (instance_in Q.instances name) sources.Instance src e in
     (found_free (λ (y : Instance). y.name) Q.instances name m.0 m.1 has.instances, found_some (instance_in Q.instances name) m.0 m.1)
 
-value_listed : (dialect : Dialect) (ds : Declarations) (o : Operand) → has_form forms.Value false o ≡ true → IsNamed ds o → IsRead dialect o → IsValueOperand dialect ds o
-value_listed dialect ds operands.Absent form named read = absurd cc
-value_listed dialect ds (operands.Literal v) form named read = read
-value_listed dialect ds (operands.Bare z) form named read = named
-value_listed dialect ds (operands.Variable name) form named read = named
-value_listed dialect ds (operands.Direct loc) form named read = read
-value_listed dialect ds (operands.Label name) form named read = absurd cc
-value_listed dialect ds (operands.Field name field) form named read = named
-value_listed dialect ds (operands.Instance name) form named read = absurd cc
+value_listed : (dialect : Dialect) (ds : Declarations) (o : Operand) → has_form forms.Value false o ≡ true → may_name (newest dialect) o ≡ true → IsNamed ds o → IsRead dialect o → IsValueOperand dialect ds o
+value_listed dialect ds operands.Absent form may named read = absurd cc
+value_listed dialect ds (operands.Literal v) form may named read = read
+value_listed dialect ds (operands.Bare z) form may named read = named
+value_listed dialect ds (operands.Variable name) form may named read = named
+value_listed dialect ds (operands.Direct loc) form may named read = (read.0, read.1, may)
+value_listed dialect ds (operands.Label name) form may named read = absurd cc
+value_listed dialect ds (operands.Field name field) form may named read = named
+value_listed dialect ds (operands.Instance name) form may named read = absurd cc
 
-operand_listed : (dialect : Dialect) (ds : Declarations) (o : Operand) → IsNamed ds o → IsRead dialect o → IsListedOperand dialect ds o
-operand_listed dialect ds operands.Absent named read = tt
-operand_listed dialect ds (operands.Literal v) named read = read
-operand_listed dialect ds (operands.Bare z) named read = named
-operand_listed dialect ds (operands.Variable name) named read = named
-operand_listed dialect ds (operands.Direct loc) named read = read
-operand_listed dialect ds (operands.Label name) named read = named
-operand_listed dialect ds (operands.Field name field) named read = named
-operand_listed dialect ds (operands.Instance name) named read = named
+operand_listed : (dialect : Dialect) (ds : Declarations) (o : Operand) → may_name (newest dialect) o ≡ true → IsNamed ds o → IsRead dialect o → IsListedOperand dialect ds o
+operand_listed dialect ds operands.Absent may named read = tt
+operand_listed dialect ds (operands.Literal v) may named read = read
+operand_listed dialect ds (operands.Bare z) may named read = named
+operand_listed dialect ds (operands.Variable name) may named read = named
+operand_listed dialect ds (operands.Direct loc) may named read = (read.0, read.1, may)
+operand_listed dialect ds (operands.Label name) may named read = named
+operand_listed dialect ds (operands.Field name field) may named read = named
+operand_listed dialect ds (operands.Instance name) may named read = named
 
 -- ---- arguments
 
-passed_listed : (dialect : Dialect) (Q : Program) (kind : Option BlockKind) (k : BlockKind) (a : Argument) → HasNames Q → AllByRecursion (IsSayable dialect) (constants_of Q) → IsPassing Q kind a → IsArgumentOf Q k a → IsListedArgument dialect (declared_by Q) a
-passed_listed dialect Q kind k a has values is typed =
+passed_listed : (dialect : Dialect) (Q : Program) (kind : Option BlockKind) (k : BlockKind) (a : Argument) → HasNames Q → AllByRecursion (IsSayable dialect) (constants_of Q) → may_name (newest dialect) a.operand ≡ true → IsPassing Q kind a → IsArgumentOf Q k a → IsListedArgument dialect (declared_by Q) a
+passed_listed dialect Q kind k a has values may is typed =
     let t = tested_is (has_form forms.Value false) (value_operand (declared_by Q) (constants_of Q) (operand_code Q (constants_of Q) a.operand)) a.operand is.operand_read in
     let read = value_read dialect (declared_by Q) (constants_of Q) (operand_code Q (constants_of Q) a.operand) a.operand values t.0 in
     let f = field_so k a.field typed.number typed.numbered in
     record {
       field = subst IsFieldName f.named (field_is f.field);
-      operand = value_listed dialect (declared_by Q) a.operand t.1 (stands_for Q a.operand typed.source has typed.sourced) read;
+      operand = value_listed dialect (declared_by Q) a.operand t.1 may (stands_for Q a.operand typed.source has typed.sourced) read;
     }
 
-all_passed : (dialect : Dialect) (Q : Program) (kind : Option BlockKind) (k : BlockKind) (args : List Argument) → HasNames Q → AllByRecursion (IsSayable dialect) (constants_of Q) → AllByRecursion (IsPassing Q kind) args → AllByRecursion (IsArgumentOf Q k) args
+all_passed : (dialect : Dialect) (Q : Program) (kind : Option BlockKind) (k : BlockKind) (args : List Argument) → HasNames Q → AllByRecursion (IsSayable dialect) (constants_of Q) → list_all (may_name (newest dialect)) (map (λ (a : Argument). a.operand) args) ≡ true → AllByRecursion (IsPassing Q kind) args → AllByRecursion (IsArgumentOf Q k) args
     → AllByRecursion (IsListedArgument dialect (declared_by Q)) args
-all_passed dialect Q kind k [] has values is typed = tt
-all_passed dialect Q kind k (a ∷ args) has values is typed = (passed_listed dialect Q kind k a has values is.0 typed.0, all_passed dialect Q kind k args has values is.1 typed.1)
+all_passed dialect Q kind k [] has values may is typed = tt
+all_passed dialect Q kind k (a ∷ args) has values may is typed =
+    let m = both_true (may_name (newest dialect) a.operand) (list_all (may_name (newest dialect)) (map (λ (b : Argument). b.operand) args)) may in
+    (passed_listed dialect Q kind k a has values m.0 is.0 typed.0, all_passed dialect Q kind k args has values m.1 is.1 typed.1)
 
-arguments_listed : (dialect : Dialect) (Q : Program) (kind own : Option BlockKind) (args : List Argument) → HasNames Q → AllByRecursion (IsSayable dialect) (constants_of Q) → AllByRecursion (IsPassing Q own) args → arguments_fault Q kind [] args ≡ None
+arguments_listed : (dialect : Dialect) (Q : Program) (kind own : Option BlockKind) (args : List Argument) → HasNames Q → AllByRecursion (IsSayable dialect) (constants_of Q) → list_all (may_name (newest dialect)) (map (λ (a : Argument). a.operand) args) ≡ true → AllByRecursion (IsPassing Q own) args → arguments_fault Q kind [] args ≡ None
     → AllByRecursion (IsListedArgument dialect (declared_by Q)) args
-arguments_listed dialect Q None own args has values is e = subst (λ (xs : List Argument). AllByRecursion (IsListedArgument dialect (declared_by Q)) xs) (sym (no_arguments Q [] args e)) tt
-arguments_listed dialect Q (Some k) own args has values is e = all_passed dialect Q own k args has values is (arguments_typed Q k [] args e)
+arguments_listed dialect Q None own args has values may is e = subst (λ (xs : List Argument). AllByRecursion (IsListedArgument dialect (declared_by Q)) xs) (sym (no_arguments Q [] args e)) tt
+arguments_listed dialect Q (Some k) own args has values may is e = all_passed dialect Q own k args has values may is (arguments_typed Q k [] args e)
 
 -- ---- lines
 
@@ -325,13 +334,15 @@ line_listed dialect Q line has values label known is typed =
     let marks = marks_from 0 Q.code in
     let t = tested_is (formed_by (usage_of line.op) line.modifier) (numbered_operand (declared_by Q) marks (constants_of Q) line.op code) line.operand is.coded.operand_read in
     let l = tested_is (allowed_by (usage_of line.op)) (modifier_of (modifier_code line.modifier)) line.modifier is.coded.letters in
+    let m = both_true (may_have (newest dialect) (op_version line.op)) (list_all (may_name (newest dialect)) (operands_in line)) known in
+    let n = both_true (may_name (newest dialect) line.operand) (list_all (may_name (newest dialect)) (map (λ (a : Argument). a.operand) line.arguments)) m.1 in
     record {
       label = label;
-      known = known;
+      known = m.0;
       letters = l.1;
       form = t.1;
-      operand = operand_listed dialect (declared_by Q) line.operand (stands_for Q line.operand typed.source has typed.sourced) (word_read dialect (declared_by Q) marks (constants_of Q) line.op code line.operand values t.0);
-      arguments = arguments_listed dialect Q (called_kind Q line.operand) (called_kind Q line.operand) line.arguments has values is.arguments typed.arguments;
+      operand = operand_listed dialect (declared_by Q) line.operand n.0 (stands_for Q line.operand typed.source has typed.sourced) (word_read dialect (declared_by Q) marks (constants_of Q) line.op code line.operand values t.0);
+      arguments = arguments_listed dialect Q (called_kind Q line.operand) (called_kind Q line.operand) line.arguments has values n.1 is.arguments typed.arguments;
       called = is.called;
       labelled = is.labelled;
     }

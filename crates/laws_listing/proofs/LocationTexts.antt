@@ -1,17 +1,28 @@
 -- The listing of a location is read as the location.
-use Rattle.std.proofs.Common.{◌≡◌, ℕ, ◌+◌, ◌*◌, ◌/◌, ◌%◌, ◌<◌, true, List, ◌∷◌, ◌++◌, length, Some, refl, ◌∙◌, arith}
+use Rattle.std.proofs.Common.{◌≡◌, ℕ, ◌+◌, ◌*◌, ◌/◌, ◌%◌, ◌<◌, true, List, ◌∷◌, ◌++◌, length, Option, Some, None, refl, ap, ◌∙◌, arith}
+use Rattle.std.specs.Prelude.{suc, take, drop}
 use Rattle.std.proofs.lemmas.Bool.{lt-ltb}
 use Rattle.std.proofs.Math.Seq.{take-append_seam, drop-append-add}
 use Rattle.il_model.specs.declared.program.Area.{Area}
 use Rattle.il_model.specs.declared.program.Area.TheVariants as areas
 use Rattle.il_model.specs.declared.program.Loc.{Loc}
-use Rattle.il_model.specs.declared.program.Loc.TheVariants.{Bit, Word}
-use Rattle.il_model.specs.Locations.{is_no_dot, dot_at, bit_of, bit_at, word_at, location_of}
+use Rattle.il_model.specs.declared.program.Loc.TheVariants.{Bit, Word, Double}
+use Rattle.il_model.specs.declared.program.DoubleType.{DoubleType}
+use Rattle.il_model.specs.declared.program.DoubleType.TheVariants as doubles
+use Rattle.il_model.specs.declared.value.Ty.TheVariants as types
+use Rattle.il_model.specs.declared.dialect.Dialect.{Dialect}
+use Rattle.il_model.specs.declared.dialect.Dialect.TheVariants as dialects
+use Rattle.il_model.specs.declared.codes.Version.TheVariants as versions
+use Rattle.il_model.specs.Literals.{are_digits, integer_of}
+use Rattle.il_model.specs.Locations.{begins_double, is_no_dot, dot_at, bit_of, bit_at, word_at, double_at, location_of, or_double, extended_location_of, seen_as}
+use Rattle.il_model.specs.Dialects.{location_in}
+use Rattle.il_model.specs.Image.{location_version, may_have}
 use Rattle.il_model.specs.CodedOperands.{IsCell}
 use Rattle.il_lister.specs.Listing.{decimal, location_text}
 use Rattle.laws_listing.proofs.Fronts.{prefix_whole, all_weaker}
 use Rattle.laws_listing.proofs.Numerals.{is_digit, IsNumeral, numeral}
 use Rattle.laws_listing.proofs.LiteralTexts.{digit_is_not}
+use Rattle.laws_listing.proofs.Sayable.{newest}
 
 no_dot_digit : (b : ℕ) → is_digit b ≡ true → is_no_dot b ≡ true
 no_dot_digit b is = rw (digit_is_not 46 b (λ low high. omega arith) is) refl
@@ -36,10 +47,44 @@ bit_whole area n lt =
     bit_again area (n / 8) (n % 8) (decimal (n / 8)) (decimal (n % 8)) (numeral (n / 8)) (numeral (n % 8))
     ∙ rw (lt-ltb (n / 8) 64 (omega arith), lt-ltb (n % 8) 8 (omega arith), whole) refl
 
-pub location_again : (loc : Loc) → IsCell loc → location_of (location_text loc) ≡ Some loc
-location_again (Bit areas.Input n) lt = bit_whole areas.Input n lt
-location_again (Bit areas.Output n) lt = bit_whole areas.Output n lt
-location_again (Bit areas.Memory n) lt = bit_whole areas.Memory n lt
-location_again (Word areas.Input n) lt = word_again areas.Input n lt
-location_again (Word areas.Output n) lt = word_again areas.Output n lt
-location_again (Word areas.Memory n) lt = word_again areas.Memory n lt
+-- a double word, which no text before had
+
+double_again : (area : Area) (n : ℕ) → begins_double n ≡ true → double_at area (decimal n) ≡ Some (Double area n doubles.Dint)
+unfolding double_at
+double_again area n begins = let is = numeral n in rw (is.reads, begins) refl
+
+none_bit : (area : Area) (n : Option ℕ) → bit_of area None n ≡ None
+none_bit area None = refl
+none_bit area (Some n) = refl
+
+-- a D is no digit
+no_number : (ds : List ℕ) → integer_of 10 (take (dot_at (68 ∷ ds)) (68 ∷ ds)) ≡ None
+unfolding are_digits
+no_number ds = let e : 1 + dot_at ds ≡ suc (dot_at ds) = omega arith in rw e refl
+
+no_bit_there : (area : Area) (ds : List ℕ) → bit_at area (68 ∷ ds) ≡ None
+unfolding bit_at
+no_bit_there area ds = rw (no_number ds) (none_bit area (integer_of 10 (drop (dot_at (68 ∷ ds) + 1) (68 ∷ ds))))
+
+plain_again : (loc : Loc) → IsCell loc → location_version loc ≡ versions.One → location_of (location_text loc) ≡ Some loc
+plain_again (Bit areas.Input n) lt e = bit_whole areas.Input n lt
+plain_again (Bit areas.Output n) lt e = bit_whole areas.Output n lt
+plain_again (Bit areas.Memory n) lt e = bit_whole areas.Memory n lt
+plain_again (Word areas.Input n) lt e = word_again areas.Input n lt
+plain_again (Word areas.Output n) lt e = word_again areas.Output n lt
+plain_again (Word areas.Memory n) lt e = word_again areas.Memory n lt
+plain_again (Double a n t) lt e = absurd cc
+
+double_text_again : (area : Area) (n : ℕ) (t : DoubleType) → begins_double n ≡ true → extended_location_of (location_text (Double area n t)) ≡ Some (Double area n doubles.Dint)
+double_text_again areas.Input n t begins = ap (or_double (location_text (Double areas.Input n t))) (no_bit_there areas.Input (decimal n)) ∙ double_again areas.Input n begins
+double_text_again areas.Output n t begins = ap (or_double (location_text (Double areas.Output n t))) (no_bit_there areas.Output (decimal n)) ∙ double_again areas.Output n begins
+double_text_again areas.Memory n t begins = ap (or_double (location_text (Double areas.Memory n t))) (no_bit_there areas.Memory (decimal n)) ∙ double_again areas.Memory n begins
+
+-- a double word is read as DINT
+pub location_again : (dialect : Dialect) (loc : Loc) → IsCell loc → may_have (newest dialect) (location_version loc) ≡ true → location_in dialect (location_text loc) ≡ Some (seen_as types.Dint loc)
+location_again dialects.Plain (Bit a n) lt may = plain_again (Bit a n) lt refl
+location_again dialects.Plain (Word a n) lt may = plain_again (Word a n) lt refl
+location_again dialects.Plain (Double a n t) lt may = absurd cc
+location_again dialects.Extended (Bit a n) lt may = ap (or_double (location_text (Bit a n))) (plain_again (Bit a n) lt refl)
+location_again dialects.Extended (Word a n) lt may = ap (or_double (location_text (Word a n))) (plain_again (Word a n) lt refl)
+location_again dialects.Extended (Double a n t) begins may = double_text_again a n t begins

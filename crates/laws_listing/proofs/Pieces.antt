@@ -9,7 +9,7 @@ use Rattle.il_model.specs.declared.value.Value.{Value}
 use Rattle.il_model.specs.declared.value.Value.TheVariants as values
 use Rattle.il_model.specs.declared.program.Area.TheVariants as areas
 use Rattle.il_model.specs.declared.program.Loc.{Loc}
-use Rattle.il_model.specs.declared.program.Loc.TheVariants.{Bit, Word}
+use Rattle.il_model.specs.declared.program.Loc.TheVariants.{Bit, Word, Double}
 use Rattle.il_model.specs.Words.{is_first_byte, is_name_byte, is_well_spelled}
 use Rattle.il_real.specs.Texts.{real_text}
 use Rattle.il_reader.specs.declared.lexeme.Sign.{Sign}
@@ -199,6 +199,9 @@ location_token dialect (Bit areas.Memory n) rest ends = address_token dialect (c
 location_token dialect (Word areas.Input n) rest ends = address_token dialect (codes "IW" ++ decimal n) rest (address_number n) ends
 location_token dialect (Word areas.Output n) rest ends = address_token dialect (codes "QW" ++ decimal n) rest (address_number n) ends
 location_token dialect (Word areas.Memory n) rest ends = address_token dialect (codes "MW" ++ decimal n) rest (address_number n) ends
+location_token dialect (Double areas.Input n t) rest ends = address_token dialect (codes "ID" ++ decimal n) rest (address_number n) ends
+location_token dialect (Double areas.Output n t) rest ends = address_token dialect (codes "QD" ++ decimal n) rest (address_number n) ends
+location_token dialect (Double areas.Memory n t) rest ends = address_token dialect (codes "MD" ++ decimal n) rest (address_number n) ends
 
 -- ---- signs and white space
 

@@ -15,7 +15,7 @@ use Rattle.laws_listing.proofs.Says.{listing_dialect, listing_says}
 use Rattle.laws_listing.proofs.Short.{listing_short}
 
 abbrev source : Program → SourceText
-source Q = record { text = listing Q; says = written Q }
+source Q = record { text = listing Q; says = written (dialect_for (version_of Q)) Q }
 
 pub reads_back : (Q : Program) → IsImage Q → ReadsBack Q
 reads_back Q is =

@@ -23,6 +23,7 @@ use Rattle.il_lister.specs.Listing.{next_argument_text, operation_text, line_tex
 use Rattle.laws_listing.proofs.Fronts.{both_true}
 use Rattle.laws_listing.proofs.LiteralTexts.{literal_again}
 use Rattle.laws_listing.proofs.LocationTexts.{location_again}
+use Rattle.il_model.proofs.WrittenLocations.{named_seen}
 use Rattle.laws_listing.proofs.OperatorTexts.{letters}
 use Rattle.laws_listing.proofs.NameTexts.{IsFreeName, capital}
 use Rattle.laws_listing.proofs.Listable.{IsValueOperand, IsListedOperand, IsListedArgument, IsListedLabel, IsListedLine}
@@ -35,7 +36,7 @@ value_back dialect ds operands.Absent rest is = absurd is
 value_back dialect ds (operands.Literal v) rest is = rw (literal_again dialect v is) refl
 value_back dialect ds (operands.Bare z) rest is = absurd is
 value_back dialect ds (operands.Variable name) rest is = rw (capital name is.0.name, is.1) refl
-value_back dialect ds (operands.Direct loc) rest is = rw (location_again loc is) refl
+value_back dialect ds (operands.Direct loc) rest is = rw (location_again dialect loc is.0 is.2, named_seen loc is.1) refl
 value_back dialect ds (operands.Label name) rest is = absurd is
 value_back dialect ds (operands.Field name field) rest is = rw (capital name is.0.name, capital field is.1.name, is.2) refl
 value_back dialect ds (operands.Instance name) rest is = absurd is

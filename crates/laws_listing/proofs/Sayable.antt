@@ -1,5 +1,5 @@
 -- What a text of a dialect can say: values, types and operators of the versions whose listings are such texts.
-use Rattle.std.proofs.Common.{◌≡◌, Bool, true, List, [], ◌∷◌, refl}
+use Rattle.std.proofs.Common.{◌≡◌, Bool, true, List, [], ◌∷◌, refl, ◌&&◌}
 use Rattle.std.specs.List.{list_all, AllByRecursion}
 use Rattle.il_model.specs.declared.dialect.Dialect.{Dialect}
 use Rattle.il_model.specs.declared.dialect.Dialect.TheVariants as dialects
@@ -7,11 +7,16 @@ use Rattle.il_model.specs.declared.codes.Version.{Version}
 use Rattle.il_model.specs.declared.codes.Version.TheVariants as versions
 use Rattle.il_model.specs.declared.value.Value.{Value}
 use Rattle.il_model.specs.declared.program.Variable.{Variable}
+use Rattle.il_model.specs.declared.program.Instance.{Instance}
 use Rattle.il_model.specs.declared.program.Instr.{Instr}
 use Rattle.il_model.specs.Program.{Program}
-use Rattle.il_model.specs.Constants.{constants_of}
-use Rattle.il_model.specs.Image.{type_version, value_version, op_version, may_have, may_declare, may_keep, may_write, version_of}
+use Rattle.il_model.specs.declared.program.Operand.{Operand}
+use Rattle.il_model.specs.Constants.{constants_of, operands_in}
+use Rattle.il_model.specs.Image.{type_version, value_version, op_version, location_version, place_version, operand_version, retained_version, may_have, may_lie, may_retain, may_declare, may_instantiate, may_keep, may_name, may_write, version_of}
 use Rattle.il_model.specs.Fits.{IsImage}
+use Rattle.il_model.specs.declared.program.Loc.{Loc}
+use Rattle.il_model.specs.Locations.{is_nameable}
+use Rattle.il_model.specs.CodedOperands.{IsCell}
 use Rattle.il_model.proofs.LiteralLaws.{IsValue}
 use Rattle.il_model.proofs.Versions.{version_may}
 use Rattle.laws_listing.proofs.Fronts.{both_true}
@@ -32,10 +37,15 @@ pub record IsSayable (dialect : Dialect) (v : Value) : Type 0 where
   pub value : IsValue v
   pub known : may_keep (newest dialect) v ≡ true
 
+-- a location that is there, that an instruction can name, and that the dialect has
+abbrev pub IsSayablePlace : Dialect → Loc → Type 0
+IsSayablePlace dialect loc = IsCell loc × (is_nameable loc ≡ true) × (may_have (newest dialect) (location_version loc) ≡ true)
+
 -- a program that has an image and is listed in that dialect
 pub record IsSayableProgram (dialect : Dialect) (Q : Program) : Type 0 where
   pub image : IsImage Q
   pub variables : AllByRecursion (λ (v : Variable). may_declare (newest dialect) v ≡ true) Q.variables
+  pub instances : AllByRecursion (λ (x : Instance). may_instantiate (newest dialect) x ≡ true) Q.instances
   pub constants : AllByRecursion (λ (v : Value). may_keep (newest dialect) v ≡ true) (constants_of Q)
   pub code : AllByRecursion (λ (line : Instr). may_write (newest dialect) line ≡ true) Q.code
 
@@ -52,8 +62,24 @@ more_had versions.Three needed e = refl
 
 more_declared : (version : Version) (v : Variable) → may_declare version v ≡ true → may_declare (newest (dialect_for version)) v ≡ true
 more_declared version v e =
-    let h = both_true (may_have version (type_version v.ty)) (may_have version (value_version v.initial)) e in
-    rw (more_had version (type_version v.ty) h.0, more_had version (value_version v.initial) h.1) refl
+    let h = both_true (may_have version (type_version v.ty)) (may_have version (value_version v.initial) && (may_lie version v.location && may_retain version v.retained)) e in
+    let k = both_true (may_have version (value_version v.initial)) (may_lie version v.location && may_retain version v.retained) h.1 in
+    let l = both_true (may_lie version v.location) (may_retain version v.retained) k.1 in
+    rw (more_had version (type_version v.ty) h.0, more_had version (value_version v.initial) k.0, more_had version (place_version v.location) l.0, more_had version (retained_version v.retained) l.1) refl
+
+more_instantiated : (version : Version) (x : Instance) → may_instantiate version x ≡ true → may_instantiate (newest (dialect_for version)) x ≡ true
+more_instantiated version x e = more_had version (retained_version x.retained) e
+
+more_named : (version : Version) (os : List Operand) → list_all (may_name version) os ≡ true → list_all (may_name (newest (dialect_for version))) os ≡ true
+more_named version [] e = refl
+more_named version (o ∷ os) e =
+    let h = both_true (may_name version o) (list_all (may_name version) os) e in
+    rw (more_had version (operand_version o) h.0) (more_named version os h.1)
+
+more_written : (version : Version) (line : Instr) → may_write version line ≡ true → may_write (newest (dialect_for version)) line ≡ true
+more_written version line e =
+    let h = both_true (may_have version (op_version line.op)) (list_all (may_name version) (operands_in line)) e in
+    rw (more_had version (op_version line.op) h.0) (more_named version (operands_in line) h.1)
 
 all_more : {A : Type 0} (p q : A → Bool) → ((x : A) → p x ≡ true → q x ≡ true) → (xs : List A) → list_all p xs ≡ true → AllByRecursion (λ (x : A). q x ≡ true) xs
 all_more p q more [] all = tt
@@ -64,11 +90,12 @@ all_more p q more (x ∷ xs) all =
 pub sayable : (Q : Program) → IsImage Q → IsSayableProgram (dialect_for (version_of Q)) Q
 sayable Q is =
     let version = version_of Q in
-    let may = version_may Q.variables (constants_of Q) Q.code in
+    let may = version_may Q.variables Q.instances (constants_of Q) Q.code in
     let last = newest (dialect_for version) in
     record {
       image = is;
       variables = all_more (may_declare version) (may_declare last) (more_declared version) Q.variables may.0;
-      constants = all_more (may_keep version) (may_keep last) (λ v. more_had version (value_version v)) (constants_of Q) may.1;
-      code = all_more (may_write version) (may_write last) (λ line. more_had version (op_version line.op)) Q.code may.2;
+      instances = all_more (may_instantiate version) (may_instantiate last) (more_instantiated version) Q.instances may.1;
+      constants = all_more (may_keep version) (may_keep last) (λ v. more_had version (value_version v)) (constants_of Q) may.2;
+      code = all_more (may_write version) (may_write last) (more_written version) Q.code may.3;
     }

@@ -20,7 +20,7 @@ use Rattle.il_model.specs.declared.op.Modifier.{Modifier}
 use Rattle.il_model.specs.declared.program.Area.{Area}
 use Rattle.il_model.specs.declared.program.Area.TheVariants as areas
 use Rattle.il_model.specs.declared.program.Loc.{Loc}
-use Rattle.il_model.specs.declared.program.Loc.TheVariants.{Bit, Word}
+use Rattle.il_model.specs.declared.program.Loc.TheVariants.{Bit, Word, Double}
 use Rattle.il_model.specs.declared.program.Variable.{Variable}
 use Rattle.il_model.specs.declared.program.Instance.{Instance}
 use Rattle.il_model.specs.declared.kind.BlockKind.{BlockKind}
@@ -39,11 +39,12 @@ use Rattle.il_model.specs.Marks.{word_count, words_in}
 use Rattle.il_model.specs.Fits.{IsImage}
 use Rattle.il_model.specs.CodedOperands.{IsCell}
 use Rattle.il_model.specs.Codes.{is_empty}
-use Rattle.il_lister.specs.Listing.{decimal, number_text, literal_text, area_letter, location_text, type_name, at_text, initial_text, variable_text, instance_text, function_name, op_name, letter, operator_text, operand_text, behind_text, side_text, argument_text, next_argument_text, arguments_text, label_text, line_text, opening, listing}
+use Rattle.il_lister.specs.Listing.{decimal, number_text, literal_text, area_letter, location_text, type_name, at_text, initial_text, variable_text, instance_text, function_name, op_name, letter, operator_text, operand_text, behind_text, side_text, argument_text, next_argument_text, arguments_text, label_text, line_text, is_qualifier, qualifier_text, section_text, turn_text, variables_text, instances_text, first_retained, first_name, last_retained, opening, listing}
 use Rattle.laws_listing.proofs.Sayable.{dialect_for, sayable}
 use Rattle.laws_listing.proofs.Numerals.{decimal_length}
 use Rattle.laws_listing.proofs.RealTexts.{real_so}
 use Rattle.il_model.proofs.LiteralLaws.{IsValue}
+use Rattle.il_model.proofs.LocationLaws.{double_fits}
 use Rattle.laws_listing.proofs.NameTexts.{IsFreeName}
 use Rattle.laws_listing.proofs.Listable.{if_some, IsValueOperand, IsListedOperand, IsListedArgument, IsListedLabel, IsListedLine, listable}
 use Rattle.laws_listing.proofs.Declares.{IsListedVariable, variables_listed}
@@ -135,6 +136,9 @@ location_most (Bit area n) lt =
 location_most (Word area n) lt =
     let small : n < 100 = omega (arith, lt) in
     wider 5 7 (location_text (Word area n)) (join (fixed (codes "%")) (join (area_most area) (join (fixed (codes "W")) (decimal_most 2 n (omega arith) small)))) (omega arith)
+location_most (Double area n t) begins =
+    let small : n < 100 = omega (arith, double_fits n begins) in
+    wider 5 7 (location_text (Double area n t)) (join (fixed (codes "%")) (join (area_most area) (join (fixed (codes "D")) (decimal_most 2 n (omega arith) small)))) (omega arith)
 
 -- ---- declarations
 
@@ -178,6 +182,37 @@ variable_most dialect v is = join (name_most v.name is.name) (join (at_most v.lo
 instance_most : (x : Instance) → IsFreeName x.name → AtMost 43 (instance_text x)
 instance_most x is = join (name_most x.name is) (join (fixed (codes " : ")) (join (kind_most x.kind) (fixed (codes ";\n"))))
 
+-- ---- sections
+
+qualifier_by : (b : Bool) → AtMost 11 (cond b (codes " NON_RETAIN") [])
+qualifier_by true = record { le = omega arith }
+qualifier_by false = record { le = omega arith }
+
+qualifier_most : (retained : Bool) (w : List ℕ) → AtMost 11 (qualifier_text retained w)
+qualifier_most true w = record { le = omega arith }
+qualifier_most false w = qualifier_by (is_qualifier w)
+
+section_most : (retained : Bool) (w : List ℕ) → AtMost 22 (section_text retained w)
+section_most retained w = join (fixed (codes "VAR_GLOBAL")) (join (qualifier_most retained w) (fixed (codes "\n")))
+
+turn_most : (before retained : Bool) (w : List ℕ) → AtMost 30 (turn_text before retained w)
+turn_most true true w = record { le = omega arith }
+turn_most false false w = record { le = omega arith }
+turn_most true false w = join (fixed (codes "END_VAR\n")) (section_most false w)
+turn_most false true w = join (fixed (codes "END_VAR\n")) (section_most true w)
+
+variables_most : (dialect : Dialect) (before : Bool) (vs : List Variable) → AllByRecursion (IsListedVariable dialect) vs → AtMost (122 * length vs) (variables_text before vs)
+variables_most dialect before [] all = record { le = omega arith }
+variables_most dialect before (v ∷ vs) all =
+    let h = (join (turn_most before v.retained v.name) (join (variable_most dialect v all.0) (variables_most dialect v.retained vs all.1))).le in
+    record { le = omega (arith, h) }
+
+instances_most : (before : Bool) (xs : List Instance) → AllByRecursion (λ (x : Instance). IsFreeName x.name) xs → AtMost (73 * length xs) (instances_text before xs)
+instances_most before [] all = record { le = omega arith }
+instances_most before (x ∷ xs) all =
+    let h = (join (turn_most before x.retained x.name) (join (instance_most x all.0) (instances_most x.retained xs all.1))).le in
+    record { le = omega (arith, h) }
+
 -- each of them so many at most
 all_most : {X : Type 0} (F : X → Type 0) (text : X → List ℕ) (n : ℕ) → ((x : X) → F x → AtMost n (text x)) → (xs : List X) → AllByRecursion F xs → AtMost (n * length xs) (flat_map text xs)
 all_most F text n each [] all = record { le = omega arith }
@@ -192,7 +227,7 @@ value_most dialect ds operands.Absent is = absurd is
 value_most dialect ds (operands.Literal v) is = literal_most v is.value
 value_most dialect ds (operands.Bare z) is = absurd is
 value_most dialect ds (operands.Variable w) is = wider 32 36 w (name_most w is.0) (omega arith)
-value_most dialect ds (operands.Direct loc) is = wider 7 36 (location_text loc) (location_most loc is) (omega arith)
+value_most dialect ds (operands.Direct loc) is = wider 7 36 (location_text loc) (location_most loc is.0) (omega arith)
 value_most dialect ds (operands.Label w) is = absurd is
 value_most dialect ds (operands.Field w field) is = join (name_most w is.0) (join (fixed (codes ".")) (word_most 3 field is.1.small))
 value_most dialect ds (operands.Instance w) is = absurd is
@@ -277,20 +312,21 @@ lines_most dialect ds (line ∷ code) all =
 
 -- ---- the whole
 
-opening_most : (version : Version) → AtMost 11 (opening version)
-opening_most versions.One = record { le = omega arith }
-opening_most versions.Two = record { le = omega arith }
-opening_most versions.Three = record { le = omega arith }
+opening_most : (version : Version) (retained : Bool) (w : List ℕ) → AtMost 22 (opening version retained w)
+opening_most versions.One retained w = record { le = omega arith }
+opening_most versions.Two retained w = record { le = omega arith }
+opening_most versions.Three retained w = section_most retained w
 
 pub listing_short : (Q : Program) → IsImage Q → length (listing Q) ≤ 2097152
 listing_short Q is =
     let dialect = dialect_for (version_of Q) in
     let said = sayable Q is in
     let all = listable dialect Q said in
-    let vs = all_most (IsListedVariable dialect) variable_text 92 (variable_most dialect) Q.variables (variables_listed dialect Q said) in
-    let xs = all_most (λ (x : Instance). IsFreeName x.name) instance_text 43 instance_most Q.instances all.names.instances in
+    let first = first_retained Q.variables Q.instances in
+    let vs = variables_most dialect first Q.variables (variables_listed dialect Q said) in
+    let xs = instances_most (last_retained first Q.variables) Q.instances all.names.instances in
     let code = lines_most dialect (declared_by Q) Q.code all.lines in
-    let h = (join (opening_most (version_of Q)) (join vs (join xs (join (fixed (codes "END_VAR\n")) code)))).le in
+    let h = (join (opening_most (version_of Q) first (first_name Q.variables Q.instances)) (join vs (join xs (join (fixed (codes "END_VAR\n")) code)))).le in
     let a = is.text.variables_few in
     let b = is.text.instances_few in
     let c = is.short in

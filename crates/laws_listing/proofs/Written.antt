@@ -1,7 +1,9 @@
 -- What the listing of a program says: its tokens with their kinds, their bytes and their places, in the order of the listing.
 use Rattle.std.proofs.Common.{ℕ, Bool, true, false, List, [], ◌∷◌, ◌++◌, length, Option, Some, None}
-use Rattle.std.specs.Prelude.{codes, if◌then◌else◌}
+use Rattle.std.specs.Prelude.{codes, if◌then◌else◌, not}
 use Rattle.std.specs.List.{flat_map}
+use Rattle.il_model.specs.declared.dialect.Dialect.{Dialect}
+use Rattle.il_model.specs.declared.dialect.Dialect.TheVariants as dialects
 use Rattle.il_model.specs.declared.value.Value.{Value}
 use Rattle.il_model.specs.declared.value.Value.TheVariants as values
 use Rattle.il_model.specs.declared.program.Loc.{Loc}
@@ -19,9 +21,11 @@ use Rattle.il_model.specs.Codes.{is_empty}
 use Rattle.il_reader.specs.declared.lexeme.Sign.{Sign}
 use Rattle.il_reader.specs.declared.lexeme.Sign.TheVariants as signs
 use Rattle.il_reader.specs.declared.lexeme.Class.TheVariants as classes
+use Rattle.il_reader.specs.declared.contents.Qualifier.{Qualifier}
+use Rattle.il_reader.specs.declared.contents.Qualifier.TheVariants as qualifiers
 use Rattle.il_reader.specs.Tokens.{Token}
-use Rattle.il_reader.specs.Grammar.{OperandText, Constant, Direct, Named, Field, ArgumentText, CallText, BehindText, Nothing, Given, Target, Opened, Called, OperationText, LineText, Labelled, Plain, NamesText, Located, More, DeclarationText, ProgramText}
-use Rattle.il_lister.specs.Listing.{literal_text, location_text, type_name, at_text, initial_text, variable_text, instance_text, operand_text, side_text, next_argument_text, arguments_text, operation_text, line_text}
+use Rattle.il_reader.specs.Grammar.{OperandText, Constant, Direct, Named, Field, ArgumentText, CallText, BehindText, Nothing, Given, Target, Opened, Called, OperationText, LineText, Labelled, Plain, NamesText, Located, More, DeclarationText, BlockText, ProgramText}
+use Rattle.il_lister.specs.Listing.{literal_text, location_text, type_name, at_text, initial_text, variable_text, instance_text, operand_text, side_text, next_argument_text, arguments_text, operation_text, line_text, is_qualifier, turn_text, first_retained, first_name}
 use Rattle.laws_listing.proofs.OperatorTexts.{mnemonic}
 
 -- a token with the bytes behind it
@@ -140,13 +144,67 @@ written_instance x rest = record {
   initial = None;
 }
 
-abbrev pub written_variables : List Variable → List ℕ → List DeclarationText
-written_variables [] rest = []
-written_variables (v ∷ vs) rest = written_variable v (flat_map variable_text vs ++ rest) ∷ written_variables vs rest
+-- ---- what is declared: the variables, and then the instances
 
-abbrev pub written_instances : List Instance → List ℕ → List DeclarationText
-written_instances [] rest = []
-written_instances (x ∷ xs) rest = written_instance x (flat_map instance_text xs ++ rest) ∷ written_instances xs rest
+pub data Declared : Type 0 where
+  OfVariable : Variable → Declared
+  OfInstance : Instance → Declared
+
+abbrev pub retained_of : Declared → Bool
+retained_of (OfVariable v) = v.retained
+retained_of (OfInstance x) = x.retained
+
+abbrev pub name_of : Declared → List ℕ
+name_of (OfVariable v) = v.name
+name_of (OfInstance x) = x.name
+
+abbrev pub text_of : Declared → List ℕ
+text_of (OfVariable v) = variable_text v
+text_of (OfInstance x) = instance_text x
+
+abbrev pub written_declared : Declared → List ℕ → DeclarationText
+written_declared (OfVariable v) rest = written_variable v rest
+written_declared (OfInstance x) rest = written_instance x rest
+
+abbrev pub of_instances : List Instance → List Declared
+of_instances [] = []
+of_instances (x ∷ xs) = OfInstance x ∷ of_instances xs
+
+abbrev pub all_declared : List Variable → List Instance → List Declared
+all_declared [] xs = of_instances xs
+all_declared (v ∷ vs) xs = OfVariable v ∷ all_declared vs xs
+
+-- ---- sections: where one is retained and the one before it isn't, or the other way round, one ends and another begins
+
+-- both are retained, or neither is
+abbrev pub both_alike : Bool → Bool → Bool
+both_alike true retained = retained
+both_alike false retained = not retained
+
+-- these, behind a declaration that is retained or isn't, and the bytes behind them
+abbrev pub declared_text : Bool → List Declared → List ℕ → List ℕ
+declared_text before [] rest = rest
+declared_text before (d ∷ ds) rest = turn_text before (retained_of d) (name_of d) ++ (text_of d ++ declared_text (retained_of d) ds rest)
+
+abbrev pub written_qualifier : Bool → List ℕ → Option Qualifier
+written_qualifier true name = Some qualifiers.Retain
+written_qualifier false name = if is_qualifier name then Some qualifiers.NonRetain else None
+
+-- the declarations that still stand in the open section
+abbrev pub written_open : Bool → List Declared → List ℕ → List DeclarationText
+written_open before [] rest = []
+written_open before (d ∷ ds) rest =
+    if both_alike before (retained_of d) then (written_declared d (declared_text (retained_of d) ds rest) ∷ written_open (retained_of d) ds rest) else []
+
+-- the sections behind that
+abbrev pub written_sections : Bool → List Declared → List ℕ → List BlockText
+written_sections before [] rest = []
+written_sections before (d ∷ ds) rest =
+    if both_alike before (retained_of d) then written_sections (retained_of d) ds rest
+    else (record {
+      qualifier = written_qualifier (retained_of d) (name_of d);
+      declarations = written_declared d (declared_text (retained_of d) ds rest) ∷ written_open (retained_of d) ds rest;
+    } ∷ written_sections (retained_of d) ds rest)
 
 -- ---- the whole
 
@@ -154,8 +212,26 @@ written_instances (x ∷ xs) rest = written_instance x (flat_map instance_text x
 abbrev pub end_text : Program → List ℕ
 end_text Q = codes "END_VAR\n" ++ flat_map line_text Q.code
 
-abbrev pub written_block : Program → List DeclarationText
-written_block Q = written_variables Q.variables (flat_map instance_text Q.instances ++ end_text Q) ++ written_instances Q.instances (end_text Q)
+abbrev pub declared_of : Program → List Declared
+declared_of Q = all_declared Q.variables Q.instances
 
-abbrev pub written : Program → ProgramText
-written Q = record { name = None; blocks = written_block Q ∷ []; lines = written_lines Q.code }
+-- whether the first section is one of what is retained
+abbrev pub begins_retained : Program → Bool
+begins_retained Q = first_retained Q.variables Q.instances
+
+-- a plain text has no qualifier
+abbrev pub first_qualifier : Dialect → Program → Option Qualifier
+first_qualifier dialects.Plain Q = None
+first_qualifier dialects.Extended Q = written_qualifier (begins_retained Q) (first_name Q.variables Q.instances)
+
+abbrev pub first_block : Dialect → Program → BlockText
+first_block dialect Q = record {
+  qualifier = first_qualifier dialect Q;
+  declarations = written_open (begins_retained Q) (declared_of Q) (end_text Q);
+}
+
+abbrev pub written_blocks : Dialect → Program → List BlockText
+written_blocks dialect Q = first_block dialect Q ∷ written_sections (begins_retained Q) (declared_of Q) (end_text Q)
+
+abbrev pub written : Dialect → Program → ProgramText
+written dialect Q = record { name = None; blocks = written_blocks dialect Q; lines = written_lines Q.code }

@@ -30,3 +30,15 @@ returns-in_ok-write_text-in-Bit-3 g c = rw c.in-Bit.is (then c.in_ok-write_text-
 
 pub returns-in_ok-write_text-in-Word-2 : goal.returns-in_ok-write_text-in-Word-2
 returns-in_ok-write_text-in-Word-2 g c = rw c.in-Word.is (then c.in_ok-write_text-in-Word.ensures (then c.in_ok-write_area-in-Word.ensures (then c.in_ok-write_text-in-Word-2.ensures c.write_decimal-in-Word.ensures)))
+
+pub returns-in_err-write_text-in-Double : goal.returns-in_err-write_text-in-Double
+returns-in_err-write_text-in-Double g c = rw c.in-Double.is (stop _ c.from_residual-in_err-write_text-in-Double.ensures.0 c.in_err-write_text-in-Double.ensures)
+
+pub returns-in_err-write_area-in-Double : goal.returns-in_err-write_area-in-Double
+returns-in_err-write_area-in-Double g c = rw c.in-Double.is (then c.in_ok-write_text-in-Double.ensures (stop _ c.from_residual-in_err-write_area-in-Double.ensures.0 c.in_err-write_area-in-Double.ensures))
+
+pub returns-in_err-write_text-in-Double-2 : goal.returns-in_err-write_text-in-Double-2
+returns-in_err-write_text-in-Double-2 g c = rw c.in-Double.is (then c.in_ok-write_text-in-Double.ensures (then c.in_ok-write_area-in-Double.ensures (stop _ c.from_residual-in_err-write_text-in-Double-2.ensures.0 c.in_err-write_text-in-Double-2.ensures)))
+
+pub returns-in_ok-write_text-in-Double-2 : goal.returns-in_ok-write_text-in-Double-2
+returns-in_ok-write_text-in-Double-2 g c = rw c.in-Double.is (then c.in_ok-write_text-in-Double.ensures (then c.in_ok-write_area-in-Double.ensures (then c.in_ok-write_text-in-Double-2.ensures c.write_decimal-in-Double.ensures)))
