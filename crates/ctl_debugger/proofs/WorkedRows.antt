@@ -1,5 +1,5 @@
 -- Worked rows of scans and of the debugger, by computing the command table.
-use Rattle.std.proofs.Common.{◌≡◌, ◌≤◌, ℕ, zero, suc, Bool, true, false, List, [], ◌∷◌, replicate, None, Result, Ok, Err, refl, sym, ap, ◌∙◌, arith}
+use Rattle.std.proofs.Common.{◌≡◌, ◌≤◌, ℕ, zero, suc, Bool, true, false, List, [], ◌∷◌, replicate, None, Some, Result, Ok, Err, refl, sym, ap, ◌∙◌, arith}
 use Rattle.std.specs.Prelude.{pos, slice_set, codes}
 use Rattle.il_model.specs.declared.value.Value.TheVariants as values
 use Rattle.il_model.specs.declared.value.Ty.TheVariants as types
@@ -28,7 +28,7 @@ use Rattle.il_model.proofs.Judged.{is_typed}
 use Rattle.il_loader.specs.Images.{IsName, IsOperand, IsInstruction, IsWellFormed, Reading, AreBytes, ReadsImages}
 use Rattle.il_loader.specs.declared.fault.LoadFault.{LoadFault}
 use Rattle.il_loader.specs.declared.fault.LoadFault.TheVariants.{Truncated}
-use Rattle.il_loader.specs.Reading.{items_from, counts_at, header_at, spelled_name_at, name_at, first_value_at, variable_at, instance_at, mark_at, constant_at, instruction_at, argument_at, word_at, bodies_at, tables_at}
+use Rattle.il_loader.specs.Reading.{items_from, counts_at, header_at, spelled_name_at, name_at, first_value_at, declared_at, variable_at, instance_at, mark_at, constant_at, instruction_at, argument_at, word_at, bodies_at, tables_at}
 use Rattle.il_loader.specs.Judging.{image_of, judged_tables, is_own_version}
 use Rattle.ctl_debugger.specs.Owned.{Owned, cold_owned}
 use Rattle.ctl_debugger.specs.Outcome.{on_image, owned_from, answers_from, answers_with, answers_of}
@@ -110,7 +110,7 @@ freed_before_release = refl
 abbrev delaying : Program
 delaying = record {
   variables = [];
-  instances = record { name = codes "T1"; kind = kinds.Ton } ∷ [];
+  instances = record { name = codes "T1"; kind = kinds.Ton; retained = false } ∷ [];
   code = record {
     label = None;
     op = ops.Cal;
@@ -137,11 +137,52 @@ moment_goes_back = refl
 last_count : next_count 18446744073709551615 ≡ 18446744073709551615
 last_count = refl
 
+-- ---- a warm start
+
+-- an own variable, one at a place and a timer, of which each is retained or not
+abbrev keeping : Bool → Program
+keeping retained = record {
+  variables = record { name = codes "N"; ty = types.Int; location = None; initial = values.Int (pos 7); retained = retained }
+      ∷ record { name = codes "W"; ty = types.Int; location = Some (Word areas.Memory 0); initial = values.Int (pos 3); retained = retained } ∷ [];
+  instances = record { name = codes "T1"; kind = kinds.Ton; retained = retained } ∷ [];
+  code = line ops.Ld (operands.Variable (codes "N")) ∷ line ops.Add (number 1) ∷ line ops.St (operands.Variable (codes "N"))
+      ∷ line ops.St (operands.Variable (codes "W")) ∷ line ops.St (operands.Direct (Word areas.Memory 1))
+      ∷ record {
+        label = None;
+        op = ops.Cal;
+        modifier = record { negated = false; conditional = false; opens = false };
+        operand = operands.Instance (codes "T1");
+        arguments = record { field = codes "IN"; side = sides.Input; operand = operands.Literal (values.Bool true) } ∷ [];
+      } ∷ [];
+}
+
+abbrev read_at : ℕ → Command
+read_at slot = commands.ReadVar (record { 0 = slot })
+
+-- N, W, the word behind it, and the input of the timer
+abbrev all_read : List Command
+all_read = read_at 16384 ∷ read_at 16385 ∷ read_at 9217 ∷ read_at 20480 ∷ []
+
+abbrev all_told : ℕ → ℕ → Bool → List Answer
+all_told n w b = answers.Value (values.Int (pos n)) ∷ answers.Value (values.Int (pos w)) ∷ answers.Value (values.Int (pos 0)) ∷ answers.Value (values.Bool b) ∷ []
+
+-- what is retained stays
+warm_keeps : answers_of (keeping true) 10 (scan false ∷ commands.Warm ∷ all_read) ≡ outputs 1 false 0 ∷ answers.Done ∷ all_told 8 8 true
+warm_keeps = refl
+
+-- all else begins as when cold
+warm_begins : answers_of (keeping false) 10 (scan false ∷ commands.Warm ∷ all_read) ≡ outputs 1 false 0 ∷ answers.Done ∷ all_told 7 3 false
+warm_begins = refl
+
+-- and behind a reset all does
+reset_begins : answers_of (keeping true) 10 (scan false ∷ commands.Reset ∷ all_read) ≡ outputs 1 false 0 ∷ answers.Done ∷ all_told 7 3 false
+reset_begins = refl
+
 -- ---- another program
 
 abbrev counting : ℕ → Program
 counting n = record {
-  variables = record { name = codes "N"; ty = types.Int; location = None; initial = values.Int (pos 0) } ∷ [];
+  variables = record { name = codes "N"; ty = types.Int; location = None; initial = values.Int (pos 0); retained = false } ∷ [];
   instances = [];
   code = line ops.Ld (operands.Variable (codes "N")) ∷ line ops.Add (number n) ∷ line ops.St (operands.Variable (codes "N")) ∷ line ops.St (operands.Direct (Word areas.Output 0)) ∷ [];
 }
@@ -154,7 +195,7 @@ tens = 73 ∷ 76 ∷ 80 ∷ 67 ∷ 0 ∷ 1 ∷ 0 ∷ 1 ∷ 0 ∷ 0 ∷ 0 ∷ 0 �
     ∷ 1 ∷ 0 ∷ 64 ∷ 0 ∷ 9 ∷ 0 ∷ 128 ∷ 0 ∷ 2 ∷ 0 ∷ 64 ∷ 0 ∷ 2 ∷ 0 ∷ 20 ∷ 0 ∷ []
 
 tens_are : image_of tens ≡ Ok (counting 10)
-unfolding image_of judged_tables is_own_version tables_at bodies_at header_at counts_at items_from spelled_name_at name_at first_value_at variable_at instance_at mark_at constant_at instruction_at argument_at word_at is_well_spelled spells look mnemonic_of
+unfolding image_of judged_tables is_own_version tables_at bodies_at header_at counts_at items_from spelled_name_at name_at first_value_at declared_at variable_at instance_at mark_at constant_at instruction_at argument_at word_at is_well_spelled spells look mnemonic_of
 tens_are = refl
 
 abbrev one_byte : List ℕ
@@ -193,7 +234,7 @@ counting_is = record {
   locations = tt;
   code = (
     does ops.Ld (operands.Variable (codes "N")) refl refl tt (λ e. cc),
-    (does ops.Add (number 10) refl refl refl (λ e. cc), (does ops.St (operands.Variable (codes "N")) refl refl tt (λ e. cc), (does ops.St (operands.Direct (Word areas.Output 0)) refl refl refl (λ e. cc), tt))),
+    (does ops.Add (number 10) refl refl refl (λ e. cc), (does ops.St (operands.Variable (codes "N")) refl refl tt (λ e. cc), (does ops.St (operands.Direct (Word areas.Output 0)) refl refl (refl, refl) (λ e. cc), tt))),
   );
   typed = is_typed (counting 10) refl;
 }

@@ -1,14 +1,14 @@
 //! A controller, which goes on with another program between two scans.
 
-ghost use Rattle.std.specs.Prelude.{◌≡◌, true, false, Ok, IfOk, OnErr};
+ghost use Rattle.std.specs.Prelude.{◌≡◌, true, false, Some, Ok, IfOk, OnErr};
 ghost use Rattle.il_model.specs.declared.command.Refusal.TheVariants.{BadSlot, NotIdle};
 ghost use Rattle.il_model.specs.declared.command.Answer.{Answer};
 ghost use Rattle.il_model.specs.declared.command.Answer.TheVariants.{Refused};
 ghost use Rattle.ctl_debugger.specs.Owned.{Owned};
-ghost use Rattle.il_model.specs.declared.command.Command.TheVariants.{Step, Continue, Reset};
+ghost use Rattle.il_model.specs.declared.command.Command.TheVariants.{Step, Continue, Reset, Warm};
 ghost use Rattle.il_model.specs.declared.command.Answer.TheVariants.{Stopped};
 ghost use Rattle.il_model.specs.Locations.{safe_image};
-ghost use Rattle.ctl_model.specs.Slots.{places_of, slot_value};
+ghost use Rattle.ctl_model.specs.Slots.{value_read};
 ghost use Rattle.ctl_model.specs.Commands.{answer_of, phase_of, on_scan, on_break, forcible_at, on_force};
 ghost use Rattle.ctl_model.specs.Commands.{on_unforce, value_answer, result_read, command_outcome};
 ghost use Rattle.il_model.specs.Image.{spelling};
@@ -27,6 +27,7 @@ use crate::breaks::{break_flags, break_positions};
 use crate::ready::{Fresh, Kind, Ready};
 use crate::shape::{can_restore, fits};
 use crate::snap_error::SnapError;
+use crate::versions::version;
 use ctl_model::{Phase, ScanOut};
 use ctl_scan::{Breakpoints, ScanCycle, have_states};
 use il_loader::Image;
@@ -136,14 +137,16 @@ fn know_whole_inputs(command: &Command)
     }
 }
 
-/// The location of the inputs or of the outputs that a slot is.
+/// The bit or the word of the inputs or of the outputs that a slot is.
 pub(crate) fn forcible_at(slot: Slot) -> Option<Loc>
     ensures { result ≡ forcible_at slot.0 }
 {
     let loc = Loc::of_code(slot.0)?;
-    match loc.area() {
-        Area::Input | Area::Output => Some(loc),
-        Area::Memory => None,
+    match loc {
+        Loc::Bit(Area::Input | Area::Output, _) | Loc::Word(Area::Input | Area::Output, _) => {
+            Some(loc)
+        }
+        _ => None,
     }
 }
 
@@ -327,18 +330,32 @@ impl Controller {
         }
     }
 
+    fn force_at(&mut self, loc: Loc, v: Value) -> Answer
+        ensures { (result, self.new) ≡ with_control self.old (on_force self.old.control v (Some loc)) }
+    {
+        if self.cycle.force(loc, v) {
+            Answer::Done
+        } else {
+            Answer::Refused(Refusal::BadType)
+        }
+    }
+
     fn force(&mut self, slot: Slot, v: Value) -> Answer
         ensures { (result, self.new) ≡ with_control self.old (on_force self.old.control v (forcible_at slot.0)) }
     {
         match forcible_at(slot) {
             None => Answer::Refused(Refusal::BadSlot),
-            Some(loc) => {
-                if self.cycle.force(loc, v) {
-                    Answer::Done
-                } else {
-                    Answer::Refused(Refusal::BadType)
-                }
-            }
+            Some(loc) => self.force_at(loc, v),
+        }
+    }
+
+    fn unforce_at(&mut self, loc: Loc) -> Answer
+        ensures { (result, self.new) ≡ with_control self.old (on_unforce self.old.control (Some loc)) }
+    {
+        if self.cycle.unforce(loc) {
+            Answer::Done
+        } else {
+            Answer::Refused(Refusal::BadType)
         }
     }
 
@@ -347,21 +364,26 @@ impl Controller {
     {
         match forcible_at(slot) {
             None => Answer::Refused(Refusal::BadSlot),
-            Some(loc) => {
-                if self.cycle.unforce(loc) {
-                    Answer::Done
-                } else {
-                    Answer::Refused(Refusal::BadType)
-                }
-            }
+            Some(loc) => self.unforce_at(loc),
+        }
+    }
+
+    /// The value that a slot names; none of a location that came with a later version than the program's.
+    fn peek(&self, slot: Slot) -> Option<Value>
+        ensures { result ≡ value_read self.now.program self.now.control.cycle.state slot.0 }
+    {
+        if version(&self.image).may_lie(Loc::of_code(slot.0)) {
+            self.cycle.peek(slot)
+        } else {
+            None
         }
     }
 
     fn read(&self, slot: Slot) -> Answer
         ensures { (result, self.now.control) ≡ value_answer self.now.control
-            (slot_value (places_of self.now.program) self.now.control.cycle.state slot.0) BadSlot }
+            (value_read self.now.program self.now.control.cycle.state slot.0) BadSlot }
     {
-        match self.cycle.peek(slot) {
+        match self.peek(slot) {
             Some(v) => Answer::Value(v),
             None => Answer::Refused(Refusal::BadSlot),
         }
@@ -388,6 +410,15 @@ impl Controller {
         Answer::Done
     }
 
+    fn start_warm(&mut self) -> Answer
+        ensures { (result, self.new) ≡ with_control self.old
+            (command_outcome self.old.program self.old.budget self.old.control Warm) }
+    {
+        self.cycle.warm(&self.image);
+        self.phase = Phase::Idle;
+        Answer::Done
+    }
+
     /// Performs a command that doesn't change the program (`prepare` and `apply_ready` perform any), and answers it; it
     /// takes no memory. No scan is open while the controller is idle; an open one is held at a breakpoint, or was
     /// stopped. What is refused changes nothing.
@@ -401,15 +432,17 @@ impl Controller {
     /// nothing. `ReadCr` tells the current result, or is refused as `NoResult`.
     ///
     /// Stopped, `Scan` answers `Stopped` again, with the safe image, and changes nothing. `Step` and `Continue` are
-    /// refused as `NotHeld`; `ReadCr` is as when held. Only `Reset` leads out of it.
+    /// refused as `NotHeld`; `ReadCr` is as when held. Only `Reset` and `Warm` lead out of it.
     ///
     /// In all three: `SetBreak` and `ClearBreak` are `Done`, or refused as `BadPosition` past the last instruction.
-    /// `Force` and `Unforce` are `Done`, or refused as `BadSlot` where the slot is no location of `%I` or `%Q` (IEC
-    /// 61131-3:2003, 2.4.1.1), also that of a variable that lies there, and then as `BadType` where a bit is given no
-    /// BOOL or a word no INT; a force of an input counts from the next scan on, one of an output from the next end of a
-    /// scan on, and `%Q` itself keeps its value. `ReadVar` tells the value of any slot, or is refused as `BadSlot`.
-    /// `Reset` is `Done`: all variables at their first values, the controller idle; forces, breakpoints, the moment and
-    /// the count stay.
+    /// `Force` and `Unforce` are `Done`, or refused as `BadSlot` where the slot is no bit and no word of `%I` or `%Q`
+    /// (IEC 61131-3:2003, 2.4.1.1), also that of a variable that lies there, and then as `BadType` where a bit is given
+    /// no BOOL or a word no INT; a force of an input counts from the next scan on, one of an output from the next end
+    /// of a scan on, and `%Q` itself keeps its value. `ReadVar` tells the value of any slot, of a double word's only in
+    /// a program of the third version, or is refused as `BadSlot`. `Reset` is `Done`: all variables at their first
+    /// values, the controller idle; forces, breakpoints, the moment and the count stay. `Warm` is `Done` too, and the
+    /// same but for retained variables, which keep their values, and retained instances, which keep their inputs and
+    /// their states (IEC 61131-3:2003, 2.4.2).
     pub fn apply(&mut self, command: &Command) -> Answer
         requires { is_change command.now ≡ false }
         // By the table of commands.
@@ -447,6 +480,7 @@ impl Controller {
             Command::ReadVar(slot) => self.read(*slot),
             Command::ReadCr => self.read_cr(),
             Command::Reset => self.reset(),
+            Command::Warm => self.start_warm(),
             Command::Change(_) => unreachable!(),
         }
     }

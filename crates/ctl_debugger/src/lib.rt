@@ -44,6 +44,7 @@ mod names;
 mod ready;
 mod shape;
 mod snap_error;
+mod versions;
 
 pub use controller::Controller;
 pub use names::slot;

@@ -1,23 +1,19 @@
 //! The slots of names.
 
 ghost use Rattle.std.specs.Prelude.{◌≡◌, ◌<◌, ◌+◌, length, take, drop, position, IfSome};
-ghost use Rattle.std.specs.Option.{option_map};
-ghost use Rattle.il_model.specs.CodedOperands.{loc_code};
 ghost use Rattle.il_model.specs.Kinds.{field_name};
-ghost use Rattle.il_model.specs.Locations.{location_of};
 ghost use Rattle.il_model.specs.Words.{spells};
-ghost use Rattle.ctl_model.specs.Slots.{variable_slot, instance_slot, field_slot, dotted_slot, slot_number};
-ghost use Rattle.ctl_model.specs.Slots.{slot_of};
+ghost use Rattle.ctl_model.specs.Slots.{location_slot, variable_slot, instance_slot, field_slot, dotted_slot};
+ghost use Rattle.ctl_model.specs.Slots.{slot_number, slot_of};
 
+use crate::versions::dialect;
 use il_loader::Image;
-use il_model::{
-    CodedOperand, Field, Instance, MOST_INSTANCES, Slot, Variable, dot, is_spelled, location_from,
-};
+use il_model::{CodedOperand, Field, Instance, MOST_INSTANCES, Slot, Variable, dot, is_spelled};
 
-fn location_slot(name: &[u8]) -> Option<u16>
-    ensures { result ≡ option_map loc_code (location_of name.now) }
+fn location_slot(image: &Image, name: &[u8]) -> Option<u16>
+    ensures { result ≡ location_slot image.now name.now }
 {
-    let found = location_from(name)?;
+    let found = dialect(image).location(name)?;
     Some(found.code() as u16)
 }
 
@@ -88,7 +84,7 @@ fn slot_number(image: &Image, name: &[u8]) -> Option<u16>
     ensures { result ≡ slot_number image.now name.now }
 {
     if let [b'%', ..] = name {
-        return location_slot(name);
+        return location_slot(image, name);
     }
     let before = dot(name);
     if before < name.len() {
@@ -98,9 +94,10 @@ fn slot_number(image: &Image, name: &[u8]) -> Option<u16>
     }
 }
 
-/// The slot of the location (`%IX0.3`), of the instance's field (`T1.Q`) or of the variable that a name is, without
-/// regard to case (IEC 61131-3:2003, 2.4.1.1 and 2.5.2); None exactly where the name is none of these. The slot is the
-/// operand's code in the image; variables and instances are numbered from 0 as they are declared. It takes no memory.
+/// The slot of the location (`%IX0.3`; in a program of the third version also `%ID4`, which is read as DINT), of the
+/// instance's field (`T1.Q`) or of the variable that a name is, without regard to case (IEC 61131-3:2003, 2.4.1.1 and
+/// 2.5.2); None exactly where the name is none of these. The slot is the operand's code in the image; variables and
+/// instances are numbered from 0 as they are declared. It takes no memory.
 pub fn slot(image: &Image, name: &[u8]) -> Option<Slot>
     ensures { result ≡ slot_of image.now name.now }
 {

@@ -1,6 +1,7 @@
 pub mod Safety
 pub mod Joining
 pub mod Reset
+pub mod Warming
 pub mod Keeping
 pub mod Zipped
 pub mod Shapes
@@ -10,3 +11,4 @@ pub mod HeldBack
 pub mod Restoring
 pub mod Outputs
 pub mod Straight
+pub mod DoubleWords

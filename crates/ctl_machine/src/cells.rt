@@ -1,10 +1,14 @@
 //! The cells of an area: values at locations, and those before the first scan.
 
-ghost use Rattle.std.specs.Prelude.{◌≡◌, unwrap_or, option_map};
+ghost use Rattle.std.specs.Prelude.{◌≡◌, suc, slice_get, unwrap_or, option_map};
+ghost use Rattle.std.specs.Option.{option_and_then};
 ghost use Rattle.il_model.specs.Locations.{area_of};
-ghost use Rattle.ctl_model.specs.State.{same_area, with_first, first_cells, value_in, with_value_in};
+ghost use Rattle.il_model.specs.Doubles.{double_pattern};
+ghost use Rattle.ctl_model.specs.State.{same_area, with_first, first_cells, double_in, value_in, with_pattern_at};
+ghost use Rattle.ctl_model.specs.State.{with_value_in};
+ghost use Rattle.ctl_model.specs.Warm.{warm_first, warm_cells};
 
-use il_model::{Area, BITS, Cells, Loc, Value, Variable, WORDS};
+use il_model::{Area, BITS, Cells, DoubleType, Loc, Value, Variable, WORDS, words_of};
 
 /// The area of a location.
 pub fn area_of(loc: Loc) -> Area
@@ -27,6 +31,38 @@ pub fn read_cells(cells: &Cells, loc: Loc) -> Option<Value>
             Some(z) => Some(Value::Int(*z)),
             None => None,
         },
+        Loc::Double(_, n, ty) => read_double(cells, n, ty),
+    }
+}
+
+fn word_at(cells: &Cells, n: usize) -> Option<i16>
+    ensures { result ≡ slice_get cells.now.words n }
+{
+    cells.words.get(n).copied()
+}
+
+/// The value of two words.
+#[inline(never)]
+fn read_double(cells: &Cells, n: u16, ty: DoubleType) -> Option<Value>
+    ensures { result ≡ double_in ty (slice_get cells.now.words n) (slice_get cells.now.words (suc n)) }
+{
+    let high = word_at(cells, n as usize)?;
+    let low = word_at(cells, n as usize + 1)?;
+    Some(ty.value(high, low))
+}
+
+/// Writes a value to two words; None, and nothing written, where they aren't there or it is of another type.
+#[inline(never)]
+pub fn write_double(cells: &mut Cells, n: u16, ty: DoubleType, v: Value) -> Option<()>
+    ensures { option_and_then (with_pattern_at cells.old n) (double_pattern ty v) ≡ option_map (λ _. cells.new) result }
+{
+    let (high, low) = words_of(ty.pattern(v)?);
+    if n as usize + 1 < WORDS {
+        cells.words[n as usize] = high;
+        cells.words[n as usize + 1] = low;
+        Some(())
+    } else {
+        None
     }
 }
 
@@ -52,6 +88,7 @@ pub fn write_cells(cells: &mut Cells, loc: Loc, v: Value) -> Option<()>
                 None
             }
         }
+        (Loc::Double(_, n, ty), v) => write_double(cells, n, ty, v),
         _ => None,
     }
 }
@@ -73,13 +110,13 @@ fn written_or_same(cells: Cells, loc: Loc, v: Value) -> Cells
     }
 }
 
-/// The cells of an area with the first value of a variable, where it lies there.
-fn with_first(area: Area, cells: Cells, variable: &Variable) -> Cells
-    ensures { result ≡ with_first area cells variable.now.location variable.now.initial }
+/// The cells of an area with a value at a location, where that lies in the area.
+fn with_first(area: Area, cells: Cells, location: Option<Loc>, first: Value) -> Cells
+    ensures { result ≡ with_first area cells location first }
 {
-    match variable.location {
+    match location {
         Some(loc) => if lies_in(loc, area) {
-            written_or_same(cells, loc, variable.initial)
+            written_or_same(cells, loc, first)
         } else {
             cells
         },
@@ -93,7 +130,29 @@ pub fn first_cells(area: Area, variables: &[Variable]) -> Cells
 {
     let mut cells = Cells::clear();
     for variable in variables {
-        cells = with_first(area, cells, variable);
+        cells = with_first(area, cells, variable.location, variable.initial);
+    }
+    cells
+}
+
+/// The value that a variable at a location begins with at a warm start: the one that it has among these cells where
+/// it's retained, else its first one.
+fn warm_first(old: &Cells, variable: &Variable) -> Value
+    ensures { result ≡ warm_first old.now variable.now }
+{
+    match variable.location {
+        Some(loc) if variable.retained => read_cells(old, loc).unwrap_or(variable.initial),
+        _ => variable.initial,
+    }
+}
+
+/// The cells of an area behind a warm start, by those before it.
+pub fn warm_cells(area: Area, old: &Cells, variables: &[Variable]) -> Cells
+    ensures { result ≡ warm_cells area old.now variables.now }
+{
+    let mut cells = Cells::clear();
+    for variable in variables {
+        cells = with_first(area, cells, variable.location, warm_first(old, variable));
     }
     cells
 }

@@ -13,8 +13,8 @@
 //! Proved: `step` is the step of the definition, state and answer; it has no answer for a program that went wrong,
 //! since there is none. So is each instruction that `run_straight` performs, at its position, behind the one before,
 //! and it tells how many it performed, or that the last one ended the run or stopped it (`HasRun`). `reset` and `new`
-//! give the cold state; `carry_over` goes on with what a change of the program carries over; a snapshot's parts come
-//! back as the same machine.
+//! give the cold state, and `warm` that of a warm start; `carry_over` goes on with what a change of the program carries
+//! over; a snapshot's parts come back as the same machine.
 //!
 //! Tests (nothing rests on them alone): `machine_rows` of `tests_parts` runs three stores. In no clause: that
 //! `run_straight` doesn't stop early for nothing; the figures in `bench/README.md` would show it.

@@ -14,12 +14,12 @@ use Rattle.il_model.proofs.Positions.{position_first, position_later}
 
 -- ---- places in lists
 
-get_front : {X : Type 0} (xs ys : List X) (i : ℕ) (x : X) → slice_get xs i ≡ Some x → slice_get (xs ++ ys) i ≡ Some x
+pub get_front : {X : Type 0} (xs ys : List X) (i : ℕ) (x : X) → slice_get xs i ≡ Some x → slice_get (xs ++ ys) i ≡ Some x
 get_front [] ys i x e = absurd cc
 get_front (z ∷ xs) ys zero x e = e
 get_front (z ∷ xs) ys (suc i) x e = get_front xs ys i x e
 
-get_last : {X : Type 0} (xs : List X) (x : X) → slice_get (xs ++ x ∷ []) (length xs) ≡ Some x
+pub get_last : {X : Type 0} (xs : List X) (x : X) → slice_get (xs ++ x ∷ []) (length xs) ≡ Some x
 get_last [] x = refl
 get_last (z ∷ xs) x = get_last xs x
 
@@ -27,12 +27,12 @@ some_map : (o : Option ℕ) → is_some (option_map suc o) ≡ is_some o
 some_map None = refl
 some_map (Some n) = refl
 
-absent_by : {X : Type 0} (p : X → Bool) (z : X) (xs : List X) (b : Bool) → p z ≡ b → is_some (position p (z ∷ xs)) ≡ false → (b ≡ false) × (is_some (position p xs) ≡ false)
+pub absent_by : {X : Type 0} (p : X → Bool) (z : X) (xs : List X) (b : Bool) → p z ≡ b → is_some (position p (z ∷ xs)) ≡ false → (b ≡ false) × (is_some (position p xs) ≡ false)
 absent_by p z xs true h e = let f = ap is_some (position_first p z xs h) in absurd cc
 absent_by p z xs false h e = (refl, sym (some_map (position p xs)) ∙ sym (ap is_some (position_later p z xs h)) ∙ e)
 
 -- what isn't found passes nowhere
-absent : {X : Type 0} (p : X → Bool) (xs : List X) (k : ℕ) (x : X) → is_some (position p xs) ≡ false → slice_get xs k ≡ Some x → p x ≡ false
+pub absent : {X : Type 0} (p : X → Bool) (xs : List X) (k : ℕ) (x : X) → is_some (position p xs) ≡ false → slice_get xs k ≡ Some x → p x ≡ false
 absent p [] k x e there = absurd cc
 absent p (z ∷ xs) zero x e there = let is : z ≡ x = cc in subst (λ y. p y ≡ false) is (absent_by p z xs (p z) refl e).0
 absent p (z ∷ xs) (suc k) x e there = absent p xs k x (absent_by p z xs (p z) refl e).1 there

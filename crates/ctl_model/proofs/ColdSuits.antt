@@ -1,6 +1,6 @@
 -- The state before the first scan, and at the start of each, suits the program.
 use Rattle.std.proofs.Common.{◌≡◌, ℕ, Bool, true, false, cond, ltb, List, [], ◌∷◌, ◌++◌, length, map, Option, Some, None, refl, sym, ap, subst, ◌∙◌}
-use Rattle.std.specs.Prelude.{ℤ, pos, negsuc, unwrap_or, slice_set}
+use Rattle.std.specs.Prelude.{ℤ, suc, pos, negsuc, unwrap_or, slice_set}
 use Rattle.std.specs.Option.{option_map, option_and_then}
 use Rattle.std.proofs.lemmas.List.{length-set}
 use Rattle.il_model.specs.declared.value.Ty.{Ty}
@@ -9,14 +9,15 @@ use Rattle.il_model.specs.declared.value.Value.{Value}
 use Rattle.il_model.specs.declared.value.Value.TheVariants as values
 use Rattle.il_model.specs.declared.program.Area.{Area}
 use Rattle.il_model.specs.declared.program.Loc.{Loc}
-use Rattle.il_model.specs.declared.program.Loc.TheVariants.{Bit, Word}
+use Rattle.il_model.specs.declared.program.Loc.TheVariants.{Bit, Word, Double}
 use Rattle.il_model.specs.declared.program.Variable.{Variable}
 use Rattle.il_model.specs.declared.cells.Cells.{Cells}
 use Rattle.il_model.specs.Program.{Program}
 use Rattle.il_model.specs.Values.{ty_of, number_of, is_within, truth_made, typed_value}
 use Rattle.il_model.specs.Codes.{if_passes, may_start_with}
 use Rattle.il_model.specs.Fits.{IsVariable, AreItems, IsProgram}
-use Rattle.ctl_model.specs.State.{State, with_value_in, same_area, with_first, with_firsts, first_cells, cold}
+use Rattle.il_model.specs.Doubles.{double_pattern, high_word, low_word}
+use Rattle.ctl_model.specs.State.{State, with_value_in, with_pattern_at, same_area, with_first, with_firsts, first_cells, cold}
 use Rattle.ctl_model.specs.State.{scan_start_state, at_rest}
 use Rattle.il_model.specs.Locations.{area_of, clear_cells}
 use Rattle.il_model.specs.Typing.{Shape, Arrives}
@@ -63,6 +64,13 @@ set_by : (b : Bool) (c d : Cells) → AreCells c → AreCells d → AreCells (un
 set_by true c d is at = at
 set_by false c d is at = is
 
+pattern_are : (c : Cells) (n : ℕ) (o : Option ℕ) → AreCells c → AreCells (unwrap_or (option_and_then (with_pattern_at c n) o) c)
+pattern_are c n None is = is
+pattern_are c n (Some p) is = set_by (ltb (suc n) (length c.words)) c (record c { words = slice_set (slice_set c.words n (high_word p)) (suc n) (low_word p) }) is (record {
+  bits = is.bits;
+  words = length-set (slice_set c.words n (high_word p)) (suc n) (low_word p) ∙ length-set c.words n (high_word p) ∙ is.words;
+})
+
 written_are : (c : Cells) (loc : Loc) (v : Value) → AreCells c → AreCells (unwrap_or (with_value_in c loc v) c)
 written_are c (Bit a n) (values.Bool b) is = set_by (ltb n (length c.bits)) c (record c { bits = slice_set c.bits n b }) is (record { bits = length-set c.bits n b ∙ is.bits; words = is.words })
 written_are c (Bit a n) (values.Int z) is = is
@@ -76,12 +84,13 @@ written_are c (Word a n) (values.Dint z) is = is
 written_are c (Word a n) (values.Time z) is = is
 written_are c (Word a n) (values.Lint z) is = is
 written_are c (Word a n) (values.Real r) is = is
+written_are c (Double a n t) v is = pattern_are c n (double_pattern t v) is
 
 chosen_are : (b : Bool) (c d : Cells) → AreCells c → AreCells d → AreCells (cond b d c)
 chosen_are true c d is at = at
 chosen_are false c d is at = is
 
-with_first_are : (area : Area) (c : Cells) (loc : Option Loc) (v : Value) → AreCells c → AreCells (with_first area c loc v)
+pub with_first_are : (area : Area) (c : Cells) (loc : Option Loc) (v : Value) → AreCells c → AreCells (with_first area c loc v)
 with_first_are area c None v is = is
 with_first_are area c (Some loc) v is = chosen_are (same_area (area_of loc) area) c (unwrap_or (with_value_in c loc v) c) is (written_are c loc v is)
 
@@ -89,7 +98,7 @@ with_firsts_are : (area : Area) (c : Cells) (vs : List Variable) → AreCells c 
 with_firsts_are area c [] is = is
 with_firsts_are area c (v ∷ vs) is = with_firsts_are area (with_first area c v.location v.initial) vs (with_first_are area c v.location v.initial is)
 
-first_cells_are : (area : Area) (vs : List Variable) → AreCells (first_cells area vs)
+pub first_cells_are : (area : Area) (vs : List Variable) → AreCells (first_cells area vs)
 first_cells_are area vs = with_firsts_are area clear_cells vs (record { bits = refl; words = refl })
 
 -- ---- the start of a run

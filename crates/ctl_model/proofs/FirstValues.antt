@@ -88,7 +88,7 @@ source_named Q (operands.Instance name) src e = called_named Q (instance_number 
 
 -- ---- first values
 
-get_other : {X : Type 0} (xs : List X) (i j : ℕ) (x : X) → (j ≡ i → ⊥) → slice_get (slice_set xs i x) j ≡ slice_get xs j
+pub get_other : {X : Type 0} (xs : List X) (i j : ℕ) (x : X) → (j ≡ i → ⊥) → slice_get (slice_set xs i x) j ≡ slice_get xs j
 get_other [] i j x other = refl
 get_other (y ∷ xs) zero zero x other = absurd (other refl)
 get_other (y ∷ xs) zero (suc j) x other = refl

@@ -10,11 +10,14 @@ use Rattle.il_model.specs.declared.value.Value.TheVariants as values
 use Rattle.il_model.specs.declared.program.Area.{Area}
 use Rattle.il_model.specs.declared.program.Area.TheVariants as areas
 use Rattle.il_model.specs.declared.program.Loc.{Loc}
-use Rattle.il_model.specs.declared.program.Loc.TheVariants.{Bit, Word}
+use Rattle.il_model.specs.declared.program.Loc.TheVariants.{Bit, Word, Double}
+use Rattle.il_model.specs.declared.program.DoubleType.{DoubleType}
+use Rattle.il_model.specs.declared.program.DoubleType.TheVariants as doubles
 use Rattle.il_model.specs.declared.snapshot.ForcedSlot.{ForcedSlot}
 use Rattle.il_model.specs.Values.{ty_of}
 use Rattle.il_model.specs.Row.{same_type}
-use Rattle.il_model.specs.CodedOperands.{area_loc, any_loc}
+use Rattle.il_model.specs.Locations.{begins_double}
+use Rattle.il_model.specs.CodedOperands.{double_loc, double_there, area_loc, any_loc}
 use Rattle.il_model.proofs.RowTypes.{same_type_is}
 use Rattle.ctl_model.specs.declared.forces.Mask.{Mask}
 use Rattle.ctl_model.specs.declared.forces.Forces.{Forces}
@@ -98,24 +101,41 @@ not_less : (n m : ℕ) → m ≤ n → nat_lt n m ≡ false
 not_less n m le = no_less (nat_lt n m) n m refl le
 
 pub bit_there : (area : Area) (n : ℕ) → n < 512 → area_loc area n ≡ Some (Bit area n)
-bit_there area n lt = ap (λ b. cond b (Some (Bit area n)) (cond (nat_lt n 1024) None (cond (nat_lt n 1088) (Some (Word area (n - 1024))) None))) (lt-ltb n 512 lt)
+bit_there area n lt = ap (λ b. cond b (Some (Bit area n)) (cond (nat_lt n 1024) None (cond (nat_lt n 1088) (Some (Word area (n - 1024))) (double_there area n)))) (lt-ltb n 512 lt)
 
 pub word_there : (area : Area) (n : ℕ) → 1024 ≤ n → n < 1088 → area_loc area n ≡ Some (Word area (n - 1024))
 word_there area n le lt =
-    ap (λ b. cond b (Some (Bit area n)) (cond (nat_lt n 1024) None (cond (nat_lt n 1088) (Some (Word area (n - 1024))) None))) (not_less n 512 (omega (arith, le)))
-    ∙ ap (λ b. cond b None (cond (nat_lt n 1088) (Some (Word area (n - 1024))) None)) (not_less n 1024 le)
-    ∙ ap (λ b. cond b (Some (Word area (n - 1024))) None) (lt-ltb n 1088 lt)
+    ap (λ b. cond b (Some (Bit area n)) (cond (nat_lt n 1024) None (cond (nat_lt n 1088) (Some (Word area (n - 1024))) (double_there area n)))) (not_less n 512 (omega (arith, le)))
+    ∙ ap (λ b. cond b None (cond (nat_lt n 1088) (Some (Word area (n - 1024))) (double_there area n))) (not_less n 1024 le)
+    ∙ ap (λ b. cond b (Some (Word area (n - 1024))) (double_there area n)) (lt-ltb n 1088 lt)
 
 nothing_between : (area : Area) (n : ℕ) → 512 ≤ n → n < 1024 → area_loc area n ≡ None
 nothing_between area n le lt =
-    ap (λ b. cond b (Some (Bit area n)) (cond (nat_lt n 1024) None (cond (nat_lt n 1088) (Some (Word area (n - 1024))) None))) (not_less n 512 le)
-    ∙ ap (λ b. cond b None (cond (nat_lt n 1088) (Some (Word area (n - 1024))) None)) (lt-ltb n 1024 lt)
+    ap (λ b. cond b (Some (Bit area n)) (cond (nat_lt n 1024) None (cond (nat_lt n 1088) (Some (Word area (n - 1024))) (double_there area n)))) (not_less n 512 le)
+    ∙ ap (λ b. cond b None (cond (nat_lt n 1088) (Some (Word area (n - 1024))) (double_there area n))) (lt-ltb n 1024 lt)
 
-nothing_past : (area : Area) (n : ℕ) → 1088 ≤ n → area_loc area n ≡ None
-nothing_past area n le =
-    ap (λ b. cond b (Some (Bit area n)) (cond (nat_lt n 1024) None (cond (nat_lt n 1088) (Some (Word area (n - 1024))) None))) (not_less n 512 (omega (arith, le)))
-    ∙ ap (λ b. cond b None (cond (nat_lt n 1088) (Some (Word area (n - 1024))) None)) (not_less n 1024 (omega (arith, le)))
-    ∙ ap (λ b. cond b (Some (Word area (n - 1024))) None) (not_less n 1088 le)
+no_cell_past : (area : Area) (n : ℕ) → 1088 ≤ n → area_loc area n ≡ double_there area n
+no_cell_past area n le =
+    ap (λ b. cond b (Some (Bit area n)) (cond (nat_lt n 1024) None (cond (nat_lt n 1088) (Some (Word area (n - 1024))) (double_there area n)))) (not_less n 512 (omega (arith, le)))
+    ∙ ap (λ b. cond b None (cond (nat_lt n 1088) (Some (Word area (n - 1024))) (double_there area n))) (not_less n 1024 (omega (arith, le)))
+    ∙ ap (λ b. cond b (Some (Word area (n - 1024))) (double_there area n)) (not_less n 1088 le)
+
+-- a double word can't be forced
+double_not : (area : Area) (t : DoubleType) (n : ℕ) (loc : Loc) → double_loc area t n ≡ Some loc → forcible loc ≡ None
+double_not area t n loc e = by_test (begins_double n) e
+  where
+    by_test : (p : Bool) → cond p (Some (Double area n t)) None ≡ Some loc → forcible loc ≡ None
+    by_test true f = let is : Double area n t ≡ loc = cc in ap forcible (sym is)
+    by_test false f = absurd cc
+
+no_double : (area : Area) (n : ℕ) (loc : Loc) → double_there area n ≡ Some loc → forcible loc ≡ None
+no_double area n loc e = by_tests (nat_lt n 1280) (nat_lt n 1536) (nat_lt n 1792) e
+  where
+    by_tests : (p q r : Bool) → cond p None (cond q (double_loc area doubles.Dint (n - 1280)) (cond r (double_loc area doubles.Time (n - 1536)) (double_loc area doubles.Real (n - 1792)))) ≡ Some loc → forcible loc ≡ None
+    by_tests true q r f = absurd cc
+    by_tests false true r f = double_not area doubles.Dint (n - 1280) loc f
+    by_tests false false true f = double_not area doubles.Time (n - 1536) loc f
+    by_tests false false false f = double_not area doubles.Real (n - 1792) loc f
 
 pub input_there : (n : ℕ) → n < 4096 → any_loc n ≡ area_loc areas.Input n
 input_there n lt = ap (λ b. cond b (area_loc areas.Input n) (cond (nat_lt n 8192) (area_loc areas.Output (n - 4096)) (area_loc areas.Memory (n - 8192)))) (lt-ltb n 4096 lt)
@@ -148,9 +168,9 @@ int_value (values.Real r) e = absurd cc
 at_none : (n : ℕ) (v : Value) → any_loc n ≡ None → fits_location v (forcible_at n) ≡ true → ⊥
 at_none n v e h = let f = ap (λ o. fits_location v (option_and_then forcible o)) e in absurd cc
 
-at_memory : (n : ℕ) (v : Value) (o : Option Loc) → any_loc n ≡ o → ((loc : Loc) → o ≡ Some loc → forcible loc ≡ None) → fits_location v (forcible_at n) ≡ true → ⊥
-at_memory n v None e none h = at_none n v e h
-at_memory n v (Some loc) e none h = let f = ap (λ o. fits_location v (option_and_then forcible o)) e ∙ ap (fits_location v) (none loc refl) in absurd cc
+at_unforcible : (n : ℕ) (v : Value) (o : Option Loc) → any_loc n ≡ o → ((loc : Loc) → o ≡ Some loc → forcible loc ≡ None) → fits_location v (forcible_at n) ≡ true → ⊥
+at_unforcible n v None e none h = at_none n v e h
+at_unforcible n v (Some loc) e none h = let f = ap (λ o. fits_location v (option_and_then forcible o)) e ∙ ap (fits_location v) (none loc refl) in absurd cc
 
 bit_value : (n k : ℕ) (area : Area) (v : Value) → any_loc n ≡ Some (Bit area k) → forcible (Bit area k) ≡ Some (Bit area k) → k < 512 → fits_location v (forcible_at n) ≡ true → (b : Bool) × (v ≡ values.Bool b)
 bit_value n k area v e f lt h =
@@ -173,7 +193,7 @@ input_case n v false false true lt e f g h =
     let at = input_there n lt ∙ word_there areas.Input n (ltb-false n 1024 f) (ltb-true n 1088 g) in
     let z = word_value n (n - 1024) areas.Input v at refl (omega (arith, ltb-true n 1088 g, ltb-false n 1024 f)) h in
     subst (Forcible n) (sym z.1) (InputWord n z.0 (ltb-false n 1024 f) (ltb-true n 1088 g) at)
-input_case n v false false false lt e f g h = absurd (at_none n v (input_there n lt ∙ nothing_past areas.Input n (ltb-false n 1088 g)) h)
+input_case n v false false false lt e f g h = absurd (at_unforcible n v (double_there areas.Input n) (input_there n lt ∙ no_cell_past areas.Input n (ltb-false n 1088 g)) (no_double areas.Input n) h)
 
 output_case : (n k : ℕ) (v : Value) (p q r : Bool) → k ≡ n - 4096 → 4096 ≤ n → n < 8192 → nat_lt k 512 ≡ p → nat_lt k 1024 ≡ q → nat_lt k 1088 ≡ r → fits_location v (forcible_at n) ≡ true → Forcible n v
 output_case n k v true q r is le lt e f g h =
@@ -186,13 +206,13 @@ output_case n k v false false true is le lt e f g h =
     let at = output_there n le lt ∙ ap (area_loc areas.Output) (sym is) ∙ word_there areas.Output k (ltb-false k 1024 f) (ltb-true k 1088 g) in
     let z = word_value n (k - 1024) areas.Output v at refl (omega (arith, ltb-true k 1088 g, ltb-false k 1024 f)) h in
     subst (Forcible n) (sym z.1) (OutputWord n z.0 (omega (arith, is, le, ltb-false k 1024 f)) (omega (arith, is, le, ltb-true k 1088 g)) (at ∙ ap (λ k. Some (Word areas.Output (k - 1024))) is))
-output_case n k v false false false is le lt e f g h = absurd (at_none n v (output_there n le lt ∙ ap (area_loc areas.Output) (sym is) ∙ nothing_past areas.Output k (ltb-false k 1088 g)) h)
+output_case n k v false false false is le lt e f g h = absurd (at_unforcible n v (double_there areas.Output k) (output_there n le lt ∙ ap (area_loc areas.Output) (sym is) ∙ no_cell_past areas.Output k (ltb-false k 1088 g)) (no_double areas.Output k) h)
 
-memory_by : (p q r : Bool) (k : ℕ) (loc : Loc) → cond p (Some (Bit areas.Memory k)) (cond q None (cond r (Some (Word areas.Memory (k - 1024))) None)) ≡ Some loc → forcible loc ≡ None
+memory_by : (p q r : Bool) (k : ℕ) (loc : Loc) → cond p (Some (Bit areas.Memory k)) (cond q None (cond r (Some (Word areas.Memory (k - 1024))) (double_there areas.Memory k))) ≡ Some loc → forcible loc ≡ None
 memory_by true q r k loc e = let is : Bit areas.Memory k ≡ loc = cc in ap forcible (sym is)
 memory_by false true r k loc e = absurd cc
 memory_by false false true k loc e = let is : Word areas.Memory (k - 1024) ≡ loc = cc in ap forcible (sym is)
-memory_by false false false k loc e = absurd cc
+memory_by false false false k loc e = no_double areas.Memory k loc e
 
 memory_not : (k : ℕ) (loc : Loc) → area_loc areas.Memory k ≡ Some loc → forcible loc ≡ None
 memory_not k loc e = memory_by (nat_lt k 512) (nat_lt k 1024) (nat_lt k 1088) k loc e
@@ -201,7 +221,7 @@ area_case : (n : ℕ) (v : Value) (p q : Bool) → nat_lt n 4096 ≡ p → nat_l
 area_case n v true q e f h = input_case n v (nat_lt n 512) (nat_lt n 1024) (nat_lt n 1088) (ltb-true n 4096 e) refl refl refl h
 area_case n v false true e f h = output_case n (n - 4096) v (nat_lt (n - 4096) 512) (nat_lt (n - 4096) 1024) (nat_lt (n - 4096) 1088) refl (ltb-false n 4096 e) (ltb-true n 8192 f) refl refl refl h
 area_case n v false false e f h =
-    absurd (at_memory n v (area_loc areas.Memory (n - 8192)) (memory_there n (ltb-false n 8192 f)) (memory_not (n - 8192)) h)
+    absurd (at_unforcible n v (area_loc areas.Memory (n - 8192)) (memory_there n (ltb-false n 8192 f)) (memory_not (n - 8192)) h)
 
 pub forcible_by : (n : ℕ) (v : Value) → fits_location v (forcible_at n) ≡ true → Forcible n v
 forcible_by n v h = area_case n v (nat_lt n 4096) (nat_lt n 8192) refl refl h

@@ -6,6 +6,8 @@ pub mod Safe
 pub mod Calls
 pub mod NeverStuck
 pub mod ColdSuits
+pub mod WarmSuits
+pub mod WarmKeeps
 pub mod Turns
 pub mod Agrees
 pub mod SameEnd

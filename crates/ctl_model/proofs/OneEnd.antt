@@ -172,4 +172,5 @@ answers_run Q budget s (commands.Unforce slot) typed suits are = tt
 answers_run Q budget s (commands.ReadVar slot) typed suits are = tt
 answers_run Q budget s commands.ReadCr typed suits are = tt
 answers_run Q budget s commands.Reset typed suits are = tt
+answers_run Q budget s commands.Warm typed suits are = tt
 answers_run Q budget s (commands.Change image) typed suits are = tt

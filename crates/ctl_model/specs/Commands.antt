@@ -4,9 +4,9 @@ use Rattle.std.specs.Prelude.{ℕ, Bool, true, false, List, length, replicate, s
 use Rattle.std.specs.Prelude.{if◌then◌else◌}
 use Rattle.std.specs.Option.{option_and_then}
 use Rattle.il_model.specs.declared.value.Value.{Value}
-use Rattle.il_model.specs.declared.program.Area.{Area}
 use Rattle.il_model.specs.declared.program.Area.TheVariants as areas
 use Rattle.il_model.specs.declared.program.Loc.{Loc}
+use Rattle.il_model.specs.declared.program.Loc.TheVariants.{Bit, Word, Double}
 use Rattle.il_model.specs.declared.cells.InImage.{InImage}
 use Rattle.il_model.specs.declared.command.Command.{Command}
 use Rattle.il_model.specs.declared.command.Command.TheVariants as commands
@@ -14,16 +14,16 @@ use Rattle.il_model.specs.declared.command.Answer.{Answer}
 use Rattle.il_model.specs.declared.command.Answer.TheVariants as answers
 use Rattle.il_model.specs.declared.command.Refusal.{Refusal}
 use Rattle.il_model.specs.declared.command.Refusal.TheVariants as refusals
-use Rattle.il_model.specs.Locations.{area_of, safe_image}
+use Rattle.il_model.specs.Locations.{safe_image}
 use Rattle.il_model.specs.CodedOperands.{any_loc}
 use Rattle.il_model.specs.Program.{Program}
 use Rattle.ctl_model.specs.declared.phase.Phase.{Phase}
 use Rattle.ctl_model.specs.declared.phase.Phase.TheVariants as phases
 use Rattle.ctl_model.specs.declared.phase.ScanOut.{ScanOut}
 use Rattle.ctl_model.specs.declared.phase.ScanOut.TheVariants as outs
-use Rattle.ctl_model.specs.Slots.{places_of, slot_value}
+use Rattle.ctl_model.specs.Slots.{value_read}
 use Rattle.ctl_model.specs.Scan.{Cycle, cold_cycle, scan_start, scan_run, scan_run_over, scan_step, with_force}
-use Rattle.ctl_model.specs.Scan.{without_force, cold_again}
+use Rattle.ctl_model.specs.Scan.{without_force, cold_again, warm_again}
 
 -- what a controller keeps
 pub record Control : Type 0 where
@@ -76,13 +76,15 @@ abbrev pub on_break : Program → Control → ℕ → Bool → Answer × Control
 on_break Q s p b = if nat_lt p (length Q.code) then (answers.Done, record s { breaks = slice_set s.breaks p b })
     else refusal_answer s refusals.BadPosition
 
--- inputs and outputs can be forced; a variable's slot is neither, wherever the variable lies
-abbrev pub is_forcible : Area → Bool
-is_forcible areas.Memory = false
-is_forcible area = true
+-- bits and words of inputs and outputs can be forced; a variable's slot is none of them, wherever the variable lies
+abbrev pub is_forcible : Loc → Bool
+is_forcible (Bit areas.Memory n) = false
+is_forcible (Word areas.Memory n) = false
+is_forcible (Double area n t) = false
+is_forcible loc = true
 
 abbrev pub forcible : Loc → Option Loc
-forcible loc = if is_forcible (area_of loc) then Some loc else None
+forcible loc = if is_forcible loc then Some loc else None
 
 abbrev pub forcible_at : ℕ → Option Loc
 forcible_at slot = option_and_then forcible (any_loc slot)
@@ -120,10 +122,11 @@ command_outcome Q budget s commands.Step = if_held s (scan_step Q budget s.cycle
 command_outcome Q budget s commands.Continue = if_held s (scan_run_over Q s.breaks budget s.cycle) s.phase
 command_outcome Q budget s (commands.Force slot v) = on_force s v (forcible_at slot.0)
 command_outcome Q budget s (commands.Unforce slot) = on_unforce s (forcible_at slot.0)
-command_outcome Q budget s (commands.ReadVar slot) =
-    value_answer s (slot_value (places_of Q) s.cycle.state slot.0) refusals.BadSlot
+command_outcome Q budget s (commands.ReadVar slot) = value_answer s (value_read Q s.cycle.state slot.0) refusals.BadSlot
 command_outcome Q budget s commands.ReadCr = result_read s s.phase
 command_outcome Q budget s commands.Reset =
     (answers.Done, record s { cycle = cold_again Q s.cycle; phase = phases.Idle })
+command_outcome Q budget s commands.Warm =
+    (answers.Done, record s { cycle = warm_again Q s.cycle; phase = phases.Idle })
 -- no contract reaches this row: each is of a command that is no change, or is by the table with a change in it
 command_outcome Q budget s (commands.Change bytes) = refusal_answer s refusals.NotIdle

@@ -2,6 +2,7 @@ pub mod State
 pub mod Step
 pub mod Suits
 pub mod Slots
+pub mod Warm
 pub mod Forces
 pub mod Scan
 pub mod Commands

@@ -1,9 +1,9 @@
 //! What a program does: the state of a run, one instruction, one scan, one command of a controller after another, what
 //! a change of the program carries over, and what slots and names of slots stand for. Definitions with the plain types
-//! that they speak of, and six laws: a typed program is never stuck, a run comes to exactly one end, by which each
+//! that they speak of, and seven laws: a typed program is never stuck, a run comes to exactly one end, by which each
 //! command that runs a scan is answered, breakpoints change nothing but where a scan is held, a change carries over by
-//! names, and a snapshot tells its instances. It uses il_model, where programs and their types are defined, and
-//! ctl_blocks, where the blocks' equations are.
+//! names, a warm start keeps what is retained, and a snapshot tells its instances. It uses il_model, where programs and
+//! their types are defined, and ctl_blocks, where the blocks' equations are.
 //!
 //! There is no code to call. A law is used by naming it in a function whose clause rests on it:
 //!
@@ -11,14 +11,14 @@
 //! ctl_model::ends_the_same();
 //! ```
 //!
-//! Proved: the six laws, for every program, state, budget and list of commands. Worked sessions are computed from the
+//! Proved: the seven laws, for every program, state, budget and list of commands. Worked sessions are computed from the
 //! table of commands as proofs in `ctl_debugger` (`proofs/WorkedRows`), so that the definitions themselves were seen to
 //! give what was wanted.
 //!
 //! No test is needed here.
 #![tactic(auto)]
 
-ghost use Rattle.std.specs.Prelude.{ℕ, Bool, List};
+ghost use Rattle.std.specs.Prelude.{◌≡◌, ℕ, Bool, List};
 ghost use Rattle.il_model.specs.declared.cells.InImage.{InImage};
 ghost use Rattle.il_model.specs.declared.command.Command.{Command};
 ghost use Rattle.il_model.specs.Program.{Program};
@@ -26,11 +26,12 @@ ghost use Rattle.il_model.specs.Typing.{IsTyped};
 ghost use Rattle.ctl_model.specs.Commands.{Control, command_outcome};
 ghost use Rattle.ctl_model.specs.Runs.{Onward, EndsTheSame, Runs, RunsOver, IsOnlyEnd, AnswersRun, HasWholeInputs};
 ghost use Rattle.ctl_model.specs.Scan.{run_from, run_from_break};
-ghost use Rattle.ctl_model.specs.State.{State, BlockInstance};
+ghost use Rattle.ctl_model.specs.State.{State, BlockInstance, cold};
 ghost use Rattle.ctl_model.specs.Step.{step};
 ghost use Rattle.il_model.specs.Fits.{IsProgram};
 ghost use Rattle.ctl_model.specs.Suits.{HasValues, Suits, IsSafe};
 ghost use Rattle.ctl_model.specs.Changes.{carried_state, CarriesOver};
+ghost use Rattle.ctl_model.specs.Warm.{warm, StartsWarm, RetainsNothing};
 ghost use Rattle.ctl_model.specs.Snapshots.{AreKnown};
 
 use ctl_blocks::words_tell_a_block;
@@ -77,6 +78,15 @@ pub fn a_change_carries_over()
     ensures carries { (Q : Program) (s : State) (R : Program) → IsProgram Q → HasValues Q s
         → CarriesOver Q s R (carried_state Q s R) }
     ensures suits { (Q : Program) (s : State) (R : Program) → IsProgram R → HasValues Q s → Suits R (carried_state Q s R) }
+{}
+
+/// A warm start: a retained variable keeps its value, its own or the one at its location, a retained instance its
+/// inputs and its state; all others are as when cold, and so are the cells where no variable lies. What it leaves suits
+/// the program. Where nothing is retained it is a cold start.
+pub fn a_warm_start_keeps_what_is_retained()
+    ensures keeps { (Q : Program) (s : State) → IsProgram Q → HasValues Q s → StartsWarm Q s (warm Q s) }
+    ensures suits { (Q : Program) (s : State) → IsProgram Q → HasValues Q s → Suits Q (warm Q s) }
+    ensures nothing { (Q : Program) (s : State) → RetainsNothing Q → HasValues Q s → warm Q s ≡ cold Q }
 {}
 
 /// Instances are known by what a snapshot has of them.

@@ -6,7 +6,7 @@ ghost use Rattle.ctl_model.specs.Forces.{with_forces};
 ghost use Rattle.ctl_model.specs.Changes.{carried_state};
 ghost use Rattle.ctl_model.specs.Slots.{slot_value};
 ghost use Rattle.ctl_model.specs.Scan.{scan_start, scan_run, scan_run_over, scan_step, scan_result, with_force};
-ghost use Rattle.ctl_model.specs.Scan.{without_force, cold_again};
+ghost use Rattle.ctl_model.specs.Scan.{without_force, cold_again, warm_again};
 ghost use Rattle.ctl_model.specs.Runs.{ScanRuns, ScanRunsOver};
 ghost use Rattle.ctl_model.specs.Snapshots.{fit_forces};
 ghost use Rattle.ctl_machine.specs.Kept.{FitsMachine, AreLawful};
@@ -241,9 +241,9 @@ impl ScanCycle {
         }
     }
 
-    /// Forces a location of `%I` or `%Q` (IEC 61131-3:2003 2.4.1.1) from the next latch or release on: a bit to a BOOL,
-    /// a word to an INT. False, and nothing changed, where the location is of another area or the value of another
-    /// type.
+    /// Forces a bit of `%I` or `%Q` (IEC 61131-3:2003 2.4.1.1) to a BOOL, or a word to an INT, from the next latch or
+    /// release on. False, and nothing changed, where the location is of another area or a double word, or the value of
+    /// another type.
     pub fn force(&mut self, loc: Loc, v: Value) -> bool
         ensures told { result ≡ is_some (with_force self.old.cycle loc v) }
         ensures forced { self.new
@@ -254,7 +254,8 @@ impl ScanCycle {
         self.forces.force(loc, v)
     }
 
-    /// Frees a location of `%I` or `%Q`, forced or not. False, and nothing changed, where it is of another area.
+    /// Frees a bit or a word of `%I` or `%Q`, forced or not. False, and nothing changed, where it is of another area or
+    /// a double word.
     pub fn unforce(&mut self, loc: Loc) -> bool
         ensures told { result ≡ is_some (without_force self.old.cycle loc) }
         ensures unforced { self.new
@@ -272,6 +273,17 @@ impl ScanCycle {
         ensures kept { IsCycleOf image.now self.new }
     {
         self.machine.reset(image);
+        self.performed = 0;
+    }
+
+    /// Back to the cold machine but for what is retained, with no scan open; forces, moment and count stay. It takes no
+    /// memory.
+    pub fn warm(&mut self, image: &Image)
+        requires { IsCycleOf image.now self.old }
+        ensures warm { self.new ≡ record self.old { cycle = warm_again image.now self.old.cycle } }
+        ensures kept { IsCycleOf image.now self.new }
+    {
+        self.machine.warm(image);
         self.performed = 0;
     }
 

@@ -12,7 +12,7 @@
 //! let out = cycle.run_to(&image, &breaks, Budget::new(10_000)?); // Done with the outputs, Held or Stopped
 //! ```
 //!
-//! Proved: `begin`, `run_to`, `step`, `step_over`, `force`, `unforce` and `reset` are their definitions
+//! Proved: `begin`, `run_to`, `step`, `step_over`, `force`, `unforce`, `reset` and `warm` are their definitions
 //! (`ctl_model/specs/Scan`), state and answer: before each instruction the end is tested, then the budget, then
 //! the breakpoint. `carry_over` goes on from the scan cycle of another image with what a change of the program carries
 //! over (`ctl_model/specs/Changes`). No call but `new`, `parts`, `from_parts` and `none` takes memory.
