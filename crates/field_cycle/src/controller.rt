@@ -9,7 +9,7 @@ use crate::link::{Link, LinkFault, Moment, TURN};
 use crate::notices::Notices;
 use crate::passage::{Pace, Showing};
 use crate::station::Standing;
-use field_map::{Kind, Layout, Places, Reading};
+use field_map::{Form, Kind, Layout, Places, Reading};
 use il_model::{BITS, Cells, WORDS};
 use modbus_wire::{Adu, Reply, Request, Table};
 use std::net::SocketAddr;
@@ -83,6 +83,7 @@ fn all_outputs(kind: Kind) -> Reading {
             count,
         },
         layout: Layout::Single,
+        form: Form::Int,
     }
 }
 

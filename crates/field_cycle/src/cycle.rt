@@ -71,8 +71,9 @@ fn begin_round(station: &mut Station, controller: &Controller, now: Moment, is_e
 /// The next request that hands something over.
 fn next_hand(stations: &mut Vec<Station>) -> Option<Request> {
     for station in stations.iter_mut() {
-        if let Some(request) = station.hands.take() {
-            return Some(request);
+        // Most have none, and to take an empty place costs as much as a request.
+        if !station.hands.is_empty() {
+            return station.hands.take();
         }
     }
     None

@@ -59,12 +59,12 @@ pub enum Why {
     /// Bits have no words.
     #[error("for registers only")]
     Registers,
-    #[error("neither int nor dint")]
+    #[error("none of int, dint and real")]
     Form,
     #[error("neither high_first nor low_first")]
     WordOrder,
     /// An order of words where registers are taken each by itself.
-    #[error("for dint only")]
+    #[error("for dint and real only")]
     Double,
     /// A value of 32 bits would have one register.
     #[error("an odd count of registers")]

@@ -21,6 +21,15 @@ pub enum Layout {
     LowFirst,
 }
 
+/// What the registers are, for whoever looks at them: where two are a value of 32 bits, whether that is a REAL. What is
+/// carried is the same.
+#[derive(Clone, Copy, Debug, PartialEq, Eq)]
+pub enum Form {
+    Int,
+    Dint,
+    Real,
+}
+
 /// Each two words in the other order. One that is left over stays.
 #[tactic(auto, using(crate::proofs::SwapLaws::swapped_step, crate::proofs::SwapLaws::swapped_end))]
 fn swapped(words: &[i16]) -> Words

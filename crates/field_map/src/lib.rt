@@ -43,6 +43,6 @@ pub use fault::{FieldFault, Spot, Why};
 pub use field::FieldMap;
 pub use inputs::Inputs;
 pub use laws::{know_a_cycle, know_each_place, know_each_reading};
-pub use layout::Layout;
+pub use layout::{Form, Layout};
 pub use places::{Kind, Places};
 pub use reading::{Fallback, Outputs, Reading, Writing};

@@ -3,7 +3,7 @@
 ghost use Rattle.std.specs.Prelude.{◌≡◌, true};
 ghost use Rattle.field_map.specs.Areas.{is_whole};
 
-use crate::layout::Layout;
+use crate::layout::{Form, Layout};
 use crate::places::Places;
 use il_model::Cells;
 use modbus_wire::Table;
@@ -27,6 +27,7 @@ pub struct Reading {
     pub places: Places,
     /// How its registers are taken.
     pub layout: Layout,
+    pub form: Form,
     ghost whole: { is_whole layout places.kind places.count ≡ true },
 }
 
@@ -38,6 +39,7 @@ pub struct Writing {
     pub places: Places,
     /// How its registers are taken.
     pub layout: Layout,
+    pub form: Form,
     /// Whether it's written only where the device doesn't have its values yet.
     pub on_change: bool,
     /// What is written while the controller isn't fresh.

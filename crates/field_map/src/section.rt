@@ -3,9 +3,10 @@
 ghost use Rattle.std.specs.Prelude.{◌<◌, ◌≤◌, IfOk};
 
 use crate::fault::{FieldFault, Spot, Why};
+use crate::layout::Form;
 use crate::places::Kind;
 use crate::reading::Fallback;
-use il_model::{Area, Loc, location_from};
+use il_model::{Area, Loc, extended_location_from};
 use std::alloc::Global;
 use std::net::SocketAddr;
 use toml::{Table, Value};
@@ -125,16 +126,38 @@ impl<'a> Section<'a> {
         }
     }
 
-    /// A bit or a word of the area.
+    /// What the registers are: each an INT, unless it says that two are a DINT or a REAL.
+    pub(crate) fn form(&self) -> Result<Form, FieldFault> {
+        if !self.has("as") {
+            return Ok(Form::Int);
+        }
+        match self.text("as")? {
+            "int" => Ok(Form::Int),
+            "dint" => Ok(Form::Dint),
+            "real" => Ok(Form::Real),
+            _ => Err(self.fault("as", Why::Form)),
+        }
+    }
+
+    /// The first word of a double word, where two registers are one value.
+    fn double_place(&self, key: &str, number: u16) -> Result<(Kind, usize), FieldFault> {
+        match self.form()? {
+            Form::Int => Err(self.fault(key, Why::Place)),
+            Form::Dint | Form::Real => Ok((Kind::Words, usize::from(number))),
+        }
+    }
+
+    /// A bit or a word of the area; of a value of 32 bits its double word, too.
     pub(crate) fn place(&self, key: &str, area: Area) -> Result<(Kind, usize), FieldFault> {
         let text = self.text(key)?;
-        let there = match location_from(text.as_bytes()) {
+        let there = match extended_location_from(text.as_bytes()) {
             Some(there) if text.starts_with("%") => there,
             _ => return Err(self.fault(key, Why::Place)),
         };
         match there {
             Loc::Bit(found, number) if found == area => Ok((Kind::Bits, usize::from(number))),
             Loc::Word(found, number) if found == area => Ok((Kind::Words, usize::from(number))),
+            Loc::Double(found, number, _) if found == area => self.double_place(key, number),
             _ => Err(self.fault(key, Why::Place)),
         }
     }

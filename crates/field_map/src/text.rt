@@ -11,7 +11,7 @@ use crate::field::FieldMap;
 use crate::filled::Filled;
 use crate::inputs::Inputs;
 use crate::judging::judge_devices;
-use crate::layout::Layout;
+use crate::layout::{Form, Layout};
 use crate::places::{Kind, Places};
 use crate::reading::{Reading, Writing};
 use crate::section::{Section, TIMES};
@@ -95,18 +95,6 @@ fn places(
     Ok(Places { kind, from, count })
 }
 
-/// Whether two registers are one value of 32 bits.
-fn is_double(section: &Section) -> Result<bool, FieldFault> {
-    if !section.has("as") {
-        return Ok(false);
-    }
-    match section.text("as")? {
-        "int" => Ok(false),
-        "dint" => Ok(true),
-        _ => Err(section.fault("as", Why::Form)),
-    }
-}
-
 /// Which word of a value of 32 bits comes first.
 fn word_order(section: &Section) -> Result<Layout, FieldFault> {
     match section.text("word_order")? {
@@ -117,14 +105,13 @@ fn word_order(section: &Section) -> Result<Layout, FieldFault> {
 }
 
 /// How the cells are taken, so many of this kind.
-fn layout(section: &Section, kind: Kind, count: usize) -> Result<Layout, FieldFault>
+fn layout(section: &Section, form: Form, kind: Kind, count: usize) -> Result<Layout, FieldFault>
     ensures { IfOk result (λ layout. is_whole layout kind count ≡ true) }
 {
-    let is_double = is_double(section)?;
     if kind.is(Kind::Bits) && section.has("as") {
         return Err(section.fault("as", Why::Registers));
     }
-    if !is_double {
+    if let Form::Int = form {
         return if section.has("word_order") {
             Err(section.fault("word_order", Why::Double))
         } else {
@@ -142,13 +129,15 @@ fn reading(section: &Section) -> Result<Reading, FieldFault> {
     section.know(&["table", "from", "count", "as", "word_order", "to"])?;
     let (kind, table) = source(section)?;
     let (address, count) = cells(section, "from", kind, MOST_READ)?;
-    let layout = layout(section, kind, count)?;
+    let form = section.form()?;
+    let layout = layout(section, form, kind, count)?;
     let places = places(section, "to", Area::Input, kind, count)?;
     Ok(Reading {
         table,
         address,
         places,
         layout,
+        form,
     })
 }
 
@@ -179,7 +168,8 @@ fn writing(section: &Section) -> Result<Writing, FieldFault> {
     section.know(&WRITING)?;
     let kind = target(section)?;
     let (address, count) = cells(section, "to", kind, MOST_WRITTEN)?;
-    let layout = layout(section, kind, count)?;
+    let form = section.form()?;
+    let layout = layout(section, form, kind, count)?;
     let places = places(section, "from", Area::Output, kind, count)?;
     let on_change = on_change(section)?;
     let on_stop = section.fallback("on_stop")?;
@@ -187,6 +177,7 @@ fn writing(section: &Section) -> Result<Writing, FieldFault> {
         address,
         places,
         layout,
+        form,
         on_change,
         on_stop,
     })

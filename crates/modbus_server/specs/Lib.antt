@@ -2,3 +2,4 @@ pub mod Sessions
 pub mod Requests
 pub mod Replies
 pub mod Values
+pub mod Doubles

@@ -19,7 +19,8 @@
 //! ```
 //!
 //! Proved: `reply` is the table of functions, with its order of checks, cells and reply, by the bytes of a request and by
-//! its values (`values_are_served`). `serve_session` writes the replies in order, each by what its reader shows, behind
+//! its values (`values_are_served`); a double word whose registers are written by one request is never seen half written
+//! (`doubles_are_whole`). `serve_session` writes the replies in order, each by what its reader shows, behind
 //! all that it saw before, or with exception 4 in place of outputs that were released longer ago than the limit, if
 //! there's one; each is counted with its request, by the function and by the exception that it is, if it's one. It ends
 //! by Closed only at the reader's end, by a fault of the header only where the stream has it, by Device only where a
@@ -33,6 +34,7 @@
 #![tactic(auto)]
 
 mod counting;
+mod doubles;
 mod outputs;
 mod replies;
 mod request;
@@ -41,6 +43,7 @@ mod serve;
 mod service;
 mod values;
 
+pub use doubles::doubles_are_whole;
 pub use outputs::Outputs;
 pub use replies::{reply, timely_reply};
 pub use seats::{Seats, Shown};

@@ -19,7 +19,7 @@ use Rattle.ctl_model.specs.declared.phase.Phase.{Phase}
 use Rattle.ctl_model.specs.declared.phase.Phase.TheVariants as phases
 use Rattle.ctl_model.specs.Forces.{put_force, lift_force}
 use Rattle.ctl_model.specs.Scan.{Cycle, RunEnd, Done, Held, Stopped, one_step_run, run_from, run_from_break, scan_result, scan_start}
-use Rattle.ctl_model.specs.Slots.{places_of, slot_value}
+use Rattle.ctl_model.specs.Slots.{value_read}
 use Rattle.ctl_model.specs.Commands.{Control, refusal_answer, scan_answer, on_scan, if_held, on_break, force_answer, on_force, on_unforce, value_answer, result_read, forcible_at, command_outcome}
 use Rattle.ctl_debugger.specs.Owned.{Owned}
 use Rattle.ctl_debugger.specs.Outcome.{outcome, on_image, if_idle}
@@ -141,10 +141,12 @@ stays o m (commands.Force slot v) h =
 stays o m (commands.Unforce slot) h =
     lifted o m (on_unforce o.control (forcible_at slot.0)) (on_unforce m.control (forcible_at slot.0)) (commands.Unforce slot) refl h.program (unforced o.control m.control (forcible_at slot.0) (alike o m h))
 stays o m (commands.ReadVar slot) h =
-    lifted o m (command_outcome o.program o.budget o.control (commands.ReadVar slot)) (command_outcome m.program m.budget m.control (commands.ReadVar slot)) (commands.ReadVar slot) refl h.program (told o.control m.control (slot_value (places_of o.program) o.control.cycle.state slot.0) refusals.BadSlot (command_outcome m.program m.budget m.control (commands.ReadVar slot)) (alike o m h))
+    lifted o m (command_outcome o.program o.budget o.control (commands.ReadVar slot)) (command_outcome m.program m.budget m.control (commands.ReadVar slot)) (commands.ReadVar slot) refl h.program (told o.control m.control (value_read o.program o.control.cycle.state slot.0) refusals.BadSlot (command_outcome m.program m.budget m.control (commands.ReadVar slot)) (alike o m h))
 stays o m commands.ReadCr h =
     lifted o m (command_outcome o.program o.budget o.control commands.ReadCr) (command_outcome m.program m.budget m.control commands.ReadCr) commands.ReadCr refl h.program (result_told o.control m.control o.control.phase (command_outcome m.program m.budget m.control commands.ReadCr) (alike o m h))
 stays o m commands.Reset h =
     lifted o m (command_outcome o.program o.budget o.control commands.Reset) (command_outcome m.program m.budget m.control commands.Reset) commands.Reset refl h.program (record { forces = h.forces; breaks = h.breaks; idle = refl })
+stays o m commands.Warm h =
+    lifted o m (command_outcome o.program o.budget o.control commands.Warm) (command_outcome m.program m.budget m.control commands.Warm) commands.Warm refl h.program (record { forces = h.forces; breaks = h.breaks; idle = refl })
 stays o m (commands.Change bytes) h =
     changed o m (image_of bytes) o.control.phase (commands.Change bytes) (ap (λ (p : Phase). (if_idle m (on_image m (image_of bytes)) p).1) h.idle) h

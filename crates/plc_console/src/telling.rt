@@ -15,7 +15,7 @@ fn letter(area: Area) -> &'static str {
     }
 }
 
-/// A location, as `%IX0.3` or `%QW7`.
+/// A location, as `%IX0.3` or `%QW7`; no double word is forced.
 fn location_text(alloc: Global, location: Loc) -> Result<String, AllocError> {
     match location {
         Loc::Bit(area, number) => {
@@ -25,6 +25,10 @@ fn location_text(alloc: Global, location: Loc) -> Result<String, AllocError> {
         Loc::Word(area, number) => {
             let letter = letter(area);
             format!(in alloc; "%{letter}W{number}")
+        }
+        Loc::Double(area, number, _) => {
+            let letter = letter(area);
+            format!(in alloc; "%{letter}D{number}")
         }
     }
 }

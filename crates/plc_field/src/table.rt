@@ -1,8 +1,10 @@
 //! What goes where, as a table, and what was read and written.
 
 use field_cycle::{Round, Standing, Station};
-use field_map::{Device, Fallback, FieldMap, Kind, Layout, Outputs, Places, Reading, Writing};
-use il_model::Cells;
+use field_map::{
+    Device, Fallback, FieldMap, Form, Kind, Layout, Outputs, Places, Reading, Writing,
+};
+use il_model::{Cells, DoubleType, Value};
 use io_model::{CountedWrite, write_all};
 use modbus_wire::Table;
 use plc_host::Failed;
@@ -25,12 +27,21 @@ fn fallback_name(fallback: Fallback) -> &'static str {
     }
 }
 
-/// What is told of registers of which two are a value.
+/// What is told of the values of registers of which two are one.
+fn form_words(form: Form) -> &'static str {
+    match form {
+        Form::Int => "",
+        Form::Dint => ", dint",
+        Form::Real => ", real",
+    }
+}
+
+/// What is told of the order of these registers.
 fn layout_words(layout: Layout) -> &'static str {
     match layout {
         Layout::Single => "",
-        Layout::HighFirst => ", dint, high word first",
-        Layout::LowFirst => ", dint, low word first",
+        Layout::HighFirst => ", high word first",
+        Layout::LowFirst => ", low word first",
     }
 }
 
@@ -87,8 +98,9 @@ fn reading_line(alloc: Global, name: &str, reading: &Reading) -> Result<String, 
         places.count,
     )?;
     let to = range(alloc, 'I', places)?;
+    let form = form_words(reading.form);
     let layout = layout_words(reading.layout);
-    format!(in alloc; "{name}: {from} -> {to}{layout}\n")
+    format!(in alloc; "{name}: {from} -> {to}{form}{layout}\n")
 }
 
 fn writing_line(alloc: Global, name: &str, writing: &Writing) -> Result<String, AllocError> {
@@ -101,6 +113,7 @@ fn writing_line(alloc: Global, name: &str, writing: &Writing) -> Result<String, 
         writing.address,
         places.count,
     )?;
+    let form = form_words(writing.form);
     let layout = layout_words(writing.layout);
     let sending = if writing.on_change {
         ", on changes"
@@ -108,7 +121,7 @@ fn writing_line(alloc: Global, name: &str, writing: &Writing) -> Result<String, 
         ""
     };
     let on_stop = fallback_name(writing.on_stop);
-    format!(in alloc; "{name}: {from} -> {to}{layout}{sending}, on stop {on_stop}\n")
+    format!(in alloc; "{name}: {from} -> {to}{form}{layout}{sending}, on stop {on_stop}\n")
 }
 
 fn put<W: CountedWrite>(out: &mut W, line: &String) -> Result<(), Failed> {
@@ -264,33 +277,41 @@ fn words(alloc: Global, words: &[i16]) -> Result<String, AllocError> {
     Ok(text)
 }
 
-/// The value of 32 bits of a high word and a low one.
-fn double(high: i16, low: i16) -> i32 {
-    i32::from(high) * 65_536 + i32::from(low.cast_unsigned())
+/// Puts a value behind a text: a whole number, or a REAL as a program would read it.
+fn put_double(alloc: Global, value: Value, text: &mut String) -> Result<(), AllocError> {
+    match value {
+        Value::Dint(number) => text.push_str(format!(in alloc; " {number}")?.as_str())?,
+        Value::Real(number) => {
+            text.push_str(" ")?;
+            text.push_str(number.text().as_str())?;
+        }
+        _ => {}
+    }
+    Ok(())
 }
 
 /// The values of which each has two words, the high one first.
-fn doubles(alloc: Global, words: &[i16]) -> Result<String, AllocError> {
+fn doubles(alloc: Global, ty: DoubleType, words: &[i16]) -> Result<String, AllocError> {
     let mut text = String::new(alloc);
     for pair in 0..words.len() / 2 {
-        let value = double(words[2 * pair], words[2 * pair + 1]);
-        text.push_str(format!(in alloc; " {value}")?.as_str())?;
+        let value = ty.value(words[2 * pair], words[2 * pair + 1]);
+        put_double(alloc, value, &mut text)?;
     }
     Ok(text)
 }
 
 /// The values of places, one after the other.
-fn values(
-    alloc: Global,
-    places: &Places,
-    layout: Layout,
-    cells: &Cells,
-) -> Result<String, AllocError> {
+fn values(alloc: Global, places: &Places, form: Form, cells: &Cells) -> Result<String, AllocError> {
     let end = places.from + places.count;
-    match (places.kind, layout) {
+    match (places.kind, form) {
         (Kind::Bits, _) => bits(alloc, &cells.bits[places.from..end]),
-        (Kind::Words, Layout::Single) => words(alloc, &cells.words[places.from..end]),
-        (Kind::Words, _) => doubles(alloc, &cells.words[places.from..end]),
+        (Kind::Words, Form::Int) => words(alloc, &cells.words[places.from..end]),
+        (Kind::Words, Form::Dint) => {
+            doubles(alloc, DoubleType::Dint, &cells.words[places.from..end])
+        }
+        (Kind::Words, Form::Real) => {
+            doubles(alloc, DoubleType::Real, &cells.words[places.from..end])
+        }
     }
 }
 
@@ -304,7 +325,7 @@ fn put_round<W: CountedWrite>(
     let name = device.name.as_str();
     for reading in device.inputs.readings.iter() {
         let places = range(alloc, 'I', &reading.places)?;
-        let values = values(alloc, &reading.places, reading.layout, &round.gathered)?;
+        let values = values(alloc, &reading.places, reading.form, &round.gathered)?;
         put(out, &format!(in alloc; "{name}: {places} ={values}\n")?)?;
     }
     put_written(alloc, device, &round.outputs, out)
@@ -322,7 +343,7 @@ fn put_written<W: CountedWrite>(
     };
     for writing in device.writings.iter() {
         let places = range(alloc, 'Q', &writing.places)?;
-        let values = values(alloc, &writing.places, writing.layout, outputs)?;
+        let values = values(alloc, &writing.places, writing.form, outputs)?;
         put(out, &format!(in alloc; "{name}: {places} ={values}\n")?)?;
     }
     Ok(())

@@ -1,6 +1,5 @@
 -- What shows of a controller, as one JSON object. Times are seconds.
 use Rattle.std.specs.Prelude.{ℕ, ◌+◌, List, ◌++◌, Option, Some, None, codes, decimal}
-use Rattle.std.specs.Fmt.{signed_decimal}
 use Rattle.std.specs.List.{enumerate_from, flat_map}
 use Rattle.il_lister.specs.Listing.{location_text}
 use Rattle.il_text.specs.Lines.{stop_name}
@@ -16,7 +15,9 @@ use Rattle.plc_figures.specs.declared.reading.Reading.{Reading}
 use Rattle.plc_figures.specs.declared.reading.Replica.{Replica}
 use Rattle.plc_figures.specs.declared.reading.Scans.{Scans}
 use Rattle.plc_figures.specs.declared.reading.Told.{Told}
-use Rattle.plc_figures.specs.Texts.{comma, flag_json, string_json, seconds_text}
+use Rattle.il_model.specs.declared.value.Value.{Value}
+use Rattle.il_model.specs.declared.value.Value.TheVariants as values
+use Rattle.plc_figures.specs.Texts.{comma, flag_json, string_json, seconds_text, value_text}
 use Rattle.plc_figures.specs.Readings.{function_name, greatest_view, sum_of}
 
 abbrev pub phase_name : Status → List ℕ
@@ -124,13 +125,18 @@ abbrev pub process_json : Option Process → List ℕ
 process_json None = codes "null"
 process_json (Some process) = known_process process
 
+-- the text of a REAL is no number of JSON in each case
+abbrev pub value_json : Value → List ℕ
+value_json (values.Real r) = codes "\"" ++ (value_text (values.Real r) ++ codes "\"")
+value_json v = value_text v
+
 -- an input or an output, with its name, its place and its value
 abbrev pub point_json : ℕ × Point → List ℕ
 point_json it = comma it.0
     ++ (codes "{\"name\":"
     ++ (string_json it.1.name.items
     ++ (codes ",\"place\":\""
-    ++ (location_text it.1.place ++ (codes "\",\"value\":" ++ (signed_decimal it.1.value ++ codes "}"))))))
+    ++ (location_text it.1.place ++ (codes "\",\"value\":" ++ (value_json it.1.value ++ codes "}"))))))
 
 abbrev pub points_json : List Point → List ℕ
 points_json points = flat_map point_json (enumerate_from 0 points)

@@ -2,6 +2,10 @@
 use Rattle.std.specs.Prelude.{◌≡◌, ℕ, ◌+◌, ◌/◌, ◌%◌, List, [], ◌∷◌, ◌++◌, codes, decimal, zero, suc, ◌-◌, Bool, true}
 use Rattle.std.specs.Prelude.{false, ◌&&◌, if◌then◌else◌, nat_le, nat_lt, ◌==◌}
 use Rattle.std.specs.List.{flat_map}
+use Rattle.std.specs.Fmt.{signed_decimal}
+use Rattle.il_real.specs.Texts.{real_text}
+use Rattle.il_model.specs.declared.value.Value.{Value}
+use Rattle.il_model.specs.declared.value.Value.TheVariants as values
 
 -- a text was added behind what there was, and nothing else was changed
 pub record IsAdded (old : List ℕ) (text : List ℕ) (new : List ℕ) : Type 0 where
@@ -21,6 +25,15 @@ digits_six number =
 abbrev pub seconds_text : ℕ → List ℕ
 seconds_text microseconds =
     decimal (microseconds / 1_000_000) ++ (codes "." ++ digits_six (microseconds % 1_000_000))
+
+-- a value: 0 and 1 for a bit, a whole number, or a REAL
+abbrev pub value_text : Value → List ℕ
+value_text (values.Bool b) = if b then codes "1" else codes "0"
+value_text (values.Int z) = signed_decimal z
+value_text (values.Dint z) = signed_decimal z
+value_text (values.Time z) = signed_decimal z
+value_text (values.Lint z) = signed_decimal z
+value_text (values.Real r) = real_text r
 
 -- ---- JSON
 

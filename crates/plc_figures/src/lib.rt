@@ -30,4 +30,4 @@ pub use reading::{
     Reading, Replica, Scans, Told,
 };
 pub use state::{put_notices, put_state};
-pub use text::{put, put_number, put_seconds, put_signed, put_small_number};
+pub use text::{put, put_number, put_seconds, put_signed, put_small_number, put_value};

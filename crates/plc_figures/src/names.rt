@@ -10,7 +10,7 @@ ghost use Rattle.plc_figures.specs.Texts.{IsAdded};
 
 use crate::reading::FUNCTIONS;
 use crate::text::{put, put_number};
-use il_model::{Area, Loc, Stop};
+use il_model::{Area, DoubleType, Loc, Stop};
 use std::alloc::AllocError;
 use vr_model::Status;
 
@@ -72,13 +72,25 @@ fn put_word(out: &mut Vec<u8>, area: Area, number: u16) -> Result<(), AllocError
     Ok(())
 }
 
-/// Adds a location as it's written, as %IX0.3 or %QW7 (IEC 61131-3:2003, 2.4.1.1).
+/// Adds the place of a double word.
+fn put_double(out: &mut Vec<u8>, area: Area, number: u16, ty: DoubleType) -> Result<(), AllocError>
+    ensures { OnOk result (IsAdded out.old.items (location_text (places.Double area number ty)) out.new.items) }
+{
+    put(out, b"%")?;
+    put(out, area_letter(area))?;
+    put(out, b"D")?;
+    put_number(out, u64::from(number))?;
+    Ok(())
+}
+
+/// Adds a location as it's written, as %IX0.3, %QW7 or %MD4 (IEC 61131-3:2003, 2.4.1.1).
 pub fn put_place(out: &mut Vec<u8>, place: Loc) -> Result<(), AllocError>
     ensures { OnOk result (IsAdded out.old.items (location_text place) out.new.items) }
 {
     match place {
         Loc::Bit(area, number) => put_bit(out, area, number),
         Loc::Word(area, number) => put_word(out, area, number),
+        Loc::Double(area, number, ty) => put_double(out, area, number, ty),
     }
 }
 

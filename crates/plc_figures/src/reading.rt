@@ -3,7 +3,7 @@
 ghost use Rattle.std.specs.Prelude.{◌≡◌};
 ghost use Rattle.plc_figures.specs.Readings.{shows_normal};
 
-use il_model::{Loc, Stop};
+use il_model::{Loc, Stop, Value};
 use vr_model::{Standing, Status};
 
 /// What shows of a replica.
@@ -128,8 +128,7 @@ pub struct Point {
     /// As the program declares it.
     pub name: Vec<u8>,
     pub place: Loc,
-    /// 0 and 1 for a bit.
-    pub value: i64,
+    pub value: Value,
 }
 
 /// What shows of a controller.

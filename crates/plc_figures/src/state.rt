@@ -4,7 +4,7 @@ ghost use Rattle.std.specs.Prelude.{◌<◌, OnOk};
 ghost use Rattle.plc_figures.specs.State.{age_json, clients_json, halt_json, known_process, process_json, why_json};
 ghost use Rattle.plc_figures.specs.State.{exception_json, exceptions_json, function_json, functions_json};
 ghost use Rattle.plc_figures.specs.State.{known_machine, machine_json};
-ghost use Rattle.plc_figures.specs.State.{lists_text, notices_json, point_json, points_json, told_json};
+ghost use Rattle.plc_figures.specs.State.{lists_text, notices_json, point_json, points_json, told_json, value_json};
 ghost use Rattle.plc_figures.specs.State.{replica_json, replicas_json, scans_json, state_text};
 ghost use Rattle.plc_figures.specs.Texts.{IsAdded};
 
@@ -14,7 +14,8 @@ use crate::names::{phase_name, put_function, put_place, stop_name};
 use crate::reading::{
     Clients, EXCEPTIONS, Halt, Machine, PLACES, Point, Process, Reading, Replica, Scans, Told,
 };
-use crate::text::{put, put_number, put_seconds, put_signed, put_small_number};
+use crate::text::{put, put_number, put_seconds, put_small_number, put_value};
+use il_model::Value;
 use std::alloc::AllocError;
 
 /// A replica, which stands at this place.
@@ -220,6 +221,21 @@ fn put_process(out: &mut Vec<u8>, process: Option<Process>) -> Result<(), AllocE
     }
 }
 
+/// A value: 0 and 1 for a bit, a whole number, or the text of a REAL.
+fn put_value_json(out: &mut Vec<u8>, value: Value) -> Result<(), AllocError>
+    ensures { OnOk result (IsAdded out.old.items (value_json value) out.new.items) }
+{
+    match value {
+        Value::Real(_) => {
+            put(out, b"\"")?;
+            put_value(out, value)?;
+            put(out, b"\"")?;
+            Ok(())
+        }
+        _ => put_value(out, value),
+    }
+}
+
 /// An input or an output.
 fn put_point(out: &mut Vec<u8>, number: usize, point: &Point) -> Result<(), AllocError>
     ensures { OnOk result (IsAdded out.old.items (point_json (number, point.now)) out.new.items) }
@@ -230,7 +246,7 @@ fn put_point(out: &mut Vec<u8>, number: usize, point: &Point) -> Result<(), Allo
     put(out, b",\"place\":\"")?;
     put_place(out, point.place)?;
     put(out, b"\",\"value\":")?;
-    put_signed(out, point.value)?;
+    put_value_json(out, point.value)?;
     put(out, b"}")?;
     Ok(())
 }

@@ -2,8 +2,9 @@
 
 ghost use Rattle.std.specs.Prelude.{◌≡◌, ◌<◌, ◌+◌, ◌/◌, ◌%◌, decimal, OnOk};
 ghost use Rattle.std.specs.Fmt.{signed_decimal};
-ghost use Rattle.plc_figures.specs.Texts.{digits_six, seconds_text, IsAdded};
+ghost use Rattle.plc_figures.specs.Texts.{digits_six, seconds_text, value_text, IsAdded};
 
+use il_model::Value;
 use itoa::Buffer;
 use std::alloc::AllocError;
 
@@ -38,6 +39,24 @@ pub fn put_signed(out: &mut Vec<u8>, number: i64) -> Result<(), AllocError>
     let mut buffer = Buffer::new();
     put(out, buffer.format(number).as_bytes())?;
     Ok(())
+}
+
+/// Adds a value: 0 and 1 for a bit, a whole number, or a REAL, as `12.5`.
+pub fn put_value(out: &mut Vec<u8>, value: Value) -> Result<(), AllocError>
+    ensures { OnOk result (IsAdded out.old.items (value_text value) out.new.items) }
+{
+    match value {
+        Value::Bool(true) => put(out, b"1"),
+        Value::Bool(false) => put(out, b"0"),
+        Value::Int(number) => put_signed(out, i64::from(number)),
+        Value::Dint(number) => put_signed(out, i64::from(number)),
+        Value::Time(milliseconds) => put_signed(out, i64::from(milliseconds)),
+        Value::Lint(number) => put_signed(out, number),
+        Value::Real(number) => {
+            let text = number.text();
+            put(out, text.as_str().as_bytes())
+        }
+    }
 }
 
 /// A digit of a number: that of so many ones.

@@ -8,7 +8,7 @@ use Rattle.il_model.specs.declared.cells.Cells.{Cells}
 use Rattle.il_model.specs.declared.cells.InImage.{InImage}
 use Rattle.il_model.specs.declared.command.Command.{Command}
 use Rattle.il_model.specs.declared.command.Command.TheVariants.{Scan, SetBreak, ClearBreak, Step, Continue, ReadCr}
-use Rattle.il_model.specs.declared.command.Command.TheVariants.{Reset, Change}
+use Rattle.il_model.specs.declared.command.Command.TheVariants.{Reset, Warm, Change}
 use Rattle.il_model.specs.declared.value.Value.{Value}
 use Rattle.il_model.specs.declared.value.Value.TheVariants as values
 use Rattle.hex.specs.Hex.{decode_of}
@@ -132,7 +132,8 @@ abbrev pub word_alone : List ℕ → Option Command
 word_alone word = if bytes_eq word (codes "step") then Some Step else (
     if bytes_eq word (codes "continue") then Some Continue else (
     if bytes_eq word (codes "cr") then Some ReadCr else (
-    if bytes_eq word (codes "reset") then Some Reset else None)))
+    if bytes_eq word (codes "reset") then Some Reset else (
+    if bytes_eq word (codes "warm") then Some Warm else None))))
 
 abbrev pub has_three : Members → Bool
 has_three (member k d (member l e (member m f no_members))) = true

@@ -147,6 +147,7 @@ fn word_alone(word: &str) -> Option<Command>
         "continue" => Some(Command::Continue),
         "cr" => Some(Command::ReadCr),
         "reset" => Some(Command::Reset),
+        "warm" => Some(Command::Warm),
         _ => None,
     }
 }

@@ -1,6 +1,5 @@
 -- The page, with what shows in words.
 use Rattle.std.specs.Prelude.{ℕ, Bool, true, false, List, [], ◌++◌, Option, Some, None, codes, decimal}
-use Rattle.std.specs.Fmt.{signed_decimal}
 use Rattle.std.specs.List.{flat_map}
 use Rattle.il_lister.specs.Listing.{location_text}
 use Rattle.il_text.specs.Lines.{stop_name}
@@ -12,7 +11,7 @@ use Rattle.plc_figures.specs.declared.reading.Reading.{Reading}
 use Rattle.plc_figures.specs.declared.reading.Replica.{Replica}
 use Rattle.plc_figures.specs.declared.reading.Scans.{Scans}
 use Rattle.plc_figures.specs.State.{phase_name}
-use Rattle.plc_figures.specs.Texts.{seconds_text}
+use Rattle.plc_figures.specs.Texts.{seconds_text, value_text}
 use Rattle.plc_page.specs.declared.page.TheConstants.{HEAD, TAIL}
 
 -- replica 2: normal, view 0
@@ -78,7 +77,7 @@ scan_line scans =
 abbrev pub point_line : Point → List ℕ
 point_line point =
     point.name.items
-    ++ (codes " " ++ (location_text point.place ++ (codes " = " ++ (signed_decimal point.value ++ codes "\n"))))
+    ++ (codes " " ++ (location_text point.place ++ (codes " = " ++ (value_text point.value ++ codes "\n"))))
 
 abbrev pub point_lines : List Point → List ℕ
 point_lines points = flat_map point_line points

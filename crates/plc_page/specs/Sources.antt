@@ -1,11 +1,16 @@
 -- What is read for the page: what shows, and the last lines that an operator was told.
-use Rattle.std.specs.Prelude.{◌≡◌, ◌<◌, ◌+◌, ℕ, ℤ, pos, Bool, true, false, if◌then◌else◌, List, [], ◌∷◌, Option, Some}
-use Rattle.std.specs.Prelude.{None, get_or, length, ◌-◌, drop, map}
+use Rattle.std.specs.Prelude.{◌≡◌, ◌<◌, ◌+◌, ℕ, suc, ℤ, pos, Bool, true, false, if◌then◌else◌, List, [], ◌∷◌}
+use Rattle.std.specs.Prelude.{Option, Some, None, get_or, length, ◌-◌, drop, map}
 use Rattle.http_server.specs.declared.state.Config.{Config}
 use Rattle.il_model.specs.declared.cells.Cells.{Cells}
 use Rattle.il_model.specs.declared.program.Loc.{Loc}
 use Rattle.il_model.specs.declared.program.Variable.{Variable}
+use Rattle.il_model.specs.declared.program.Area.{Area}
 use Rattle.il_model.specs.declared.program.Area.TheVariants as areas
+use Rattle.il_model.specs.declared.value.Value.{Value}
+use Rattle.il_model.specs.declared.value.Value.TheVariants as values
+use Rattle.il_model.specs.Locations.{area_of}
+use Rattle.il_model.specs.Doubles.{double_value}
 use Rattle.il_model.specs.declared.program.Loc.TheVariants as places
 use Rattle.vr_shown.specs.declared.shown.Shown.{Shown}
 use Rattle.vr_shown.specs.Showing.{nothing_shown}
@@ -38,26 +43,33 @@ abbrev pub spelt_option : Option Named → List (List ℕ × Loc)
 spelt_option None = []
 spelt_option (Some named) = spelt named ∷ []
 
+abbrev pub is_output : Area → Bool
+is_output areas.Output = true
+is_output area = false
+
 -- a name that has this place, if that is among the outputs
 abbrev pub output_of : List ℕ → Option Loc → List (List ℕ × Loc)
-output_of name (Some (places.Bit areas.Output number)) = (name, places.Bit areas.Output number) ∷ []
-output_of name (Some (places.Word areas.Output number)) = (name, places.Word areas.Output number) ∷ []
-output_of name _ = []
+output_of name None = []
+output_of name (Some place) = if is_output (area_of place) then (name, place) ∷ [] else []
 
 abbrev pub named_output : Variable → List (List ℕ × Loc)
 named_output variable = output_of variable.name variable.location
 
--- what there is at a place among these cells: 0 and 1 for a bit
-abbrev pub value_at : Cells → Loc → ℤ
-value_at cells (places.Bit area number) = if get_or cells.bits number false then pos 1 else pos 0
-value_at cells (places.Word area number) = get_or cells.words number (pos 0)
+abbrev pub word_at : Cells → ℕ → ℤ
+word_at cells number = get_or cells.words number (pos 0)
+
+-- what there is at a place among these cells
+abbrev pub value_at : Cells → Loc → Value
+value_at cells (places.Bit area number) = values.Bool (get_or cells.bits number false)
+value_at cells (places.Word area number) = values.Int (word_at cells number)
+value_at cells (places.Double area number t) = double_value t (word_at cells number) (word_at cells (suc number))
 
 -- a name with what there is at its place
-abbrev pub point_at : Cells → Named → List ℕ × (Loc × ℤ)
+abbrev pub point_at : Cells → Named → List ℕ × (Loc × Value)
 point_at cells named = (named.name.items, (named.place, value_at cells named.place))
 
 -- what shows of a point
-abbrev pub shown : Point → List ℕ × (Loc × ℤ)
+abbrev pub shown : Point → List ℕ × (Loc × Value)
 shown point = (point.name.items, (point.place, point.value))
 
 -- by what a scan was held or stopped

@@ -8,7 +8,7 @@ ghost use Rattle.plc_figures.specs.Texts.{IsAdded};
 
 use plc_figures::{
     Halt, Machine, Point, Reading, Replica, Scans, phase_name, put, put_number, put_place,
-    put_seconds, put_signed, put_small_number, stop_name,
+    put_seconds, put_small_number, put_value, stop_name,
 };
 use std::alloc::AllocError;
 
@@ -433,7 +433,7 @@ fn put_point(out: &mut Vec<u8>, point: &Point) -> Result<(), AllocError>
     put(out, b" ")?;
     put_place(out, point.place)?;
     put(out, b" = ")?;
-    put_signed(out, point.value)?;
+    put_value(out, point.value)?;
     put(out, b"\n")?;
     Ok(())
 }

@@ -1,6 +1,6 @@
 //! Where what shows is read.
 
-ghost use Rattle.std.specs.Prelude.{◌≡◌, ◌≤◌, ◌+◌, IfOk, map, vec_len};
+ghost use Rattle.std.specs.Prelude.{◌≡◌, ◌≤◌, ◌+◌, IfOk, get_or, map, pos, vec_len};
 ghost use Rattle.std.specs.List.{flat_map};
 ghost use Rattle.plc_page.specs.Sources.{halt_of, point_at, replica_of, shown, shows_outputs, value_at};
 ghost use Rattle.plc_page.specs.Sources.{AreOfStatus, IsOfClients, IsOfScans};
@@ -9,7 +9,7 @@ ghost use Rattle.plc_page.specs.Sources.{named_output, output_of, spelt, spelt_o
 use crate::notices::Notices;
 use crate::process::ProcessFiles;
 use crate::whose::Whose;
-use il_model::{Area, Cells, Loc, Variable};
+use il_model::{Area, Cells, Loc, Value, Variable};
 use io_image::{Naming, ReleasedReader};
 use plc_figures::{Clients, Halt, Machine, Point, Reading, Replica, Scans};
 use plc_host::Host;
@@ -52,9 +52,9 @@ fn output(alloc: Global, variable: &Variable) -> Result<Option<Named>, AllocErro
     let Some(place) = variable.location else {
         return Ok(None);
     };
-    let (Loc::Bit(Area::Output, _) | Loc::Word(Area::Output, _)) = place else {
+    if !matches!(place.area(), Area::Output) {
         return Ok(None);
-    };
+    }
     let name = Vec::from_slice(alloc, variable.name.bytes())?;
     Ok(Some(Named { name, place }))
 }
@@ -79,19 +79,31 @@ pub(crate) fn outputs(alloc: Global, variables: &[Variable]) -> Result<Vec<Named
     Ok(outputs)
 }
 
-/// What there is at a place among these cells: 0 and 1 for a bit.
-fn value_at(cells: &Cells, place: Loc) -> i64
+/// The word of that number among these cells.
+fn word_at(cells: &Cells, number: usize) -> i16
+    ensures { result ≡ get_or cells.now.words number (pos 0) }
+{
+    match cells.words.get(number) {
+        Some(word) => *word,
+        None => 0,
+    }
+}
+
+/// What there is at a place among these cells.
+fn value_at(cells: &Cells, place: Loc) -> Value
     ensures { result ≡ value_at cells.now place }
 {
     match place {
         Loc::Bit(_, number) => match cells.bits.get(usize::from(number)) {
-            Some(true) => 1,
-            _ => 0,
+            Some(bit) => Value::Bool(*bit),
+            None => Value::Bool(false),
         },
-        Loc::Word(_, number) => match cells.words.get(usize::from(number)) {
-            Some(word) => i64::from(*word),
-            None => 0,
-        },
+        Loc::Word(_, number) => Value::Int(word_at(cells, usize::from(number))),
+        Loc::Double(_, number, ty) => {
+            let high = word_at(cells, usize::from(number));
+            let low = word_at(cells, usize::from(number) + 1);
+            ty.value(high, low)
+        }
     }
 }
 

@@ -174,6 +174,7 @@ deed_of commands.Continue = Some deeds.Continue
 deed_of (commands.Force slot value) = Some (deeds.Force slot)
 deed_of (commands.Unforce slot) = Some (deeds.Unforce slot)
 deed_of commands.Reset = Some deeds.Reset
+deed_of commands.Warm = Some deeds.Warm
 deed_of (commands.Change image) = Some deeds.Change
 deed_of (commands.Scan inputs moment) = None
 deed_of (commands.ReadVar slot) = None
@@ -188,6 +189,7 @@ deed_line deeds.Continue = codes "console continue\n"
 deed_line (deeds.Force slot) = numbered_line (codes "console force ") slot.0 (codes "\n")
 deed_line (deeds.Unforce slot) = numbered_line (codes "console unforce ") slot.0 (codes "\n")
 deed_line deeds.Reset = codes "console reset\n"
+deed_line deeds.Warm = codes "console warm\n"
 deed_line deeds.Change = codes "console change\n"
 
 abbrev pub notice_line : Notice → List ℕ

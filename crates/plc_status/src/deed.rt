@@ -26,6 +26,8 @@ pub enum Deed {
     Unforce(Slot),
     /// The controller starts cold again.
     Reset,
+    /// It starts warm.
+    Warm,
     /// It goes on with another program.
     Change,
 }
@@ -43,6 +45,7 @@ impl Deed {
             Command::Force(slot, _) => Some(Deed::Force(*slot)),
             Command::Unforce(slot) => Some(Deed::Unforce(*slot)),
             Command::Reset => Some(Deed::Reset),
+            Command::Warm => Some(Deed::Warm),
             Command::Change(_) => Some(Deed::Change),
             Command::Scan { .. } | Command::ReadVar(_) | Command::ReadCr => None,
         }
@@ -72,6 +75,7 @@ pub(crate) fn put_deed<E: CountedWrite>(err: &mut E, deed: Deed) -> Result<(), D
         Deed::Force(slot) => put_numbered_deed(err, b"console force ", slot.0),
         Deed::Unforce(slot) => put_numbered_deed(err, b"console unforce ", slot.0),
         Deed::Reset => put(err, b"console reset\n"),
+        Deed::Warm => put(err, b"console warm\n"),
         Deed::Change => put(err, b"console change\n"),
     }
 }

@@ -1,10 +1,12 @@
 //! What a change of the program does to the names of both.
 
-ghost use Rattle.std.specs.Prelude.{◌≡◌, ◌++◌, IfOk};
+ghost use Rattle.std.specs.Prelude.{◌≡◌, ◌++◌, find, IfOk};
 ghost use Rattle.std.specs.List.{flat_map, list_any};
+ghost use Rattle.std.specs.Option.{option_map};
 ghost use Rattle.ctl_model.specs.Changes.{goes_on, goes_on_as};
 ghost use Rattle.plc_symbols.specs.Compared.{at_place, variable_text, instance_text, source_of, source_of_instance};
 ghost use Rattle.plc_symbols.specs.Compared.{variable_line, instance_line, ended_line, ended_instance_line};
+ghost use Rattle.plc_symbols.specs.Compared.{retained_text, turned_text, was_retained, was_retained_instance};
 ghost use Rattle.plc_symbols.specs.Compared.{compared_text};
 
 use crate::words::{name_of, place};
@@ -61,6 +63,24 @@ fn at(alloc: Global, location: Option<Loc>) -> Result<Vec<u8>, AllocError>
     Ok(text)
 }
 
+/// What is written behind a type or a kind where what has it is retained.
+fn retained_text(retained: bool) -> &'static [u8]
+    ensures { result.now ≡ retained_text retained }
+{
+    if retained { b" RETAIN" } else { b"" }
+}
+
+/// What is written of a name that goes on, by whether it was retained and whether it is now.
+fn turned_text(before: bool, now: bool) -> &'static [u8]
+    ensures { result.now ≡ turned_text before now }
+{
+    match (before, now) {
+        (false, true) => b", not retained before",
+        (true, false) => b", retained before",
+        _ => b"",
+    }
+}
+
 fn text_of(alloc: Global, variable: &Variable) -> Result<Vec<u8>, AllocError>
     ensures { IfOk result (λ text. text.items ≡ variable_text variable.now) }
 {
@@ -69,7 +89,7 @@ fn text_of(alloc: Global, variable: &Variable) -> Result<Vec<u8>, AllocError>
     text.extend_from_slice(place.as_slice())?;
     text.extend_from_slice(b" : ")?;
     text.extend_from_slice(name_of(variable.ty))?;
-    text.extend_from_slice(b"\n")?;
+    text.extend_from_slice(retained_text(variable.retained))?;
     Ok(text)
 }
 
@@ -79,8 +99,42 @@ fn text_of_instance(alloc: Global, instance: &Instance) -> Result<Vec<u8>, Alloc
     let mut text = Vec::from_slice(alloc, instance.name.bytes())?;
     text.extend_from_slice(b" : ")?;
     text.extend_from_slice(instance.kind.name())?;
-    text.extend_from_slice(b"\n")?;
+    text.extend_from_slice(retained_text(instance.retained))?;
     Ok(text)
+}
+
+/// The variable of the old program that goes on as this one of the new program.
+fn earlier<'a>(old: &'a [Variable], new: &Variable) -> Option<&'a Variable>
+    ensures { option_map (λ u. u.now) result ≡ find (λ u. goes_on u new.now) old.now }
+{
+    old.iter().find(|variable| does_go_on(variable, new))
+}
+
+/// The instance of the old program that does.
+fn earlier_instance<'a>(old: &'a [Instance], new: &Instance) -> Option<&'a Instance>
+    ensures { option_map (λ x. x.now) result ≡ find (λ x. goes_on_as x new.now) old.now }
+{
+    old.iter().find(|instance| does_go_on_as(instance, new))
+}
+
+/// Whether that from which a variable goes on was retained; as it is now where it goes on from none.
+fn was_retained(old: &[Variable], new: &Variable) -> bool
+    ensures { result ≡ was_retained old.now new.now }
+{
+    match earlier(old, new) {
+        Some(variable) => variable.retained,
+        None => new.retained,
+    }
+}
+
+/// The same of an instance.
+fn was_retained_instance(old: &[Instance], new: &Instance) -> bool
+    ensures { result ≡ was_retained_instance old.now new.now }
+{
+    match earlier_instance(old, new) {
+        Some(instance) => instance.retained,
+        None => new.retained,
+    }
 }
 
 /// Where a variable of the new program has its value from.
@@ -112,6 +166,8 @@ fn line(alloc: Global, old: &[Variable], variable: &Variable) -> Result<Vec<u8>,
 {
     let mut text = Vec::from_slice(alloc, source(old, variable))?;
     text.extend_from_slice(text_of(alloc, variable)?.as_slice())?;
+    text.extend_from_slice(turned_text(was_retained(old, variable), variable.retained))?;
+    text.extend_from_slice(b"\n")?;
     Ok(text)
 }
 
@@ -125,6 +181,8 @@ fn line_of_instance(
 {
     let mut text = Vec::from_slice(alloc, source_of_block(old, instance))?;
     text.extend_from_slice(text_of_instance(alloc, instance)?.as_slice())?;
+    text.extend_from_slice(turned_text(was_retained_instance(old, instance), instance.retained))?;
+    text.extend_from_slice(b"\n")?;
     Ok(text)
 }
 
@@ -141,6 +199,7 @@ fn line_of_ended(
     }
     let mut text = Vec::from_slice(alloc, b"ends     ")?;
     text.extend_from_slice(text_of(alloc, variable)?.as_slice())?;
+    text.extend_from_slice(b"\n")?;
     Ok(text)
 }
 
@@ -157,6 +216,7 @@ fn line_of_ended_instance(
     }
     let mut text = Vec::from_slice(alloc, b"ends     ")?;
     text.extend_from_slice(text_of_instance(alloc, instance)?.as_slice())?;
+    text.extend_from_slice(b"\n")?;
     Ok(text)
 }
 

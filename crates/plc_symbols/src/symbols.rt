@@ -30,7 +30,7 @@ fn table_of_bit(alloc: Global, area: Area, number: u16) -> Result<Vec<u8>, Alloc
     }
 }
 
-/// The table of Modbus that has a word of this area, and the word's address.
+/// The table of Modbus that has a word of this area, and the word's address; of a double word the first one's.
 fn table_of_word(alloc: Global, area: Area, number: u16) -> Result<Vec<u8>, AllocError>
     ensures { IfOk result (λ text. text.items ≡ word_table area number) }
 {
@@ -46,7 +46,9 @@ fn table(alloc: Global, loc: Loc) -> Result<Vec<u8>, AllocError>
 {
     match loc {
         Loc::Bit(area, number) => table_of_bit(alloc, area, number),
-        Loc::Word(area, number) => table_of_word(alloc, area, number),
+        Loc::Word(area, number) | Loc::Double(area, number, _) => {
+            table_of_word(alloc, area, number)
+        }
     }
 }
 

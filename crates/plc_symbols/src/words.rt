@@ -33,7 +33,7 @@ fn letter_of(area: Area) -> &'static [u8]
     }
 }
 
-/// A place, as %IX0.3 or %QW7.
+/// A place, as %IX0.3, %QW7 or %MD4.
 pub fn place(alloc: Global, loc: Loc) -> Result<Vec<u8>, AllocError>
     ensures { IfOk result (λ text. text.items ≡ place_text loc) }
 {
@@ -50,6 +50,11 @@ pub fn place(alloc: Global, loc: Loc) -> Result<Vec<u8>, AllocError>
         Loc::Word(area, number) => {
             text.extend_from_slice(letter_of(area))?;
             text.extend_from_slice(b"W")?;
+            text.extend_from_slice(buffer.format(number).as_bytes())?;
+        }
+        Loc::Double(area, number, _) => {
+            text.extend_from_slice(letter_of(area))?;
+            text.extend_from_slice(b"D")?;
             text.extend_from_slice(buffer.format(number).as_bytes())?;
         }
     }

@@ -49,6 +49,7 @@ pub(crate) const COMMANDS: &str = with_source_faults!(
   \"continue\"                 goes on with the held scan
   \"cr\"                       tells the current result of the held or stopped scan
   \"reset\"                    starts cold again; forces, breakpoints, moment and count stay
+  \"warm\"                     starts warm: the same, but what stands behind VAR_GLOBAL RETAIN stays too
   {\"force\":[\"%IX0.0\",true]}  lays a value over a location of %I or %Q: a truth value over a bit,
                              a number over a word
   {\"unforce\":\"%IX0.0\"}       takes it off again
@@ -175,7 +176,7 @@ What changes is reported by a line on standard error, and the status stays:
   replica I crashed          it was crashed and restarted, as --crash asks for
   held P                     a scan is held before instruction P; outputs stay as they were released last
   stopped WHY P              the program stopped at instruction P: overflow, zerodivisor or budget; all
-                             outputs are FALSE or 0 from then on, until a reset
+                             outputs are FALSE or 0 from then on, until a reset or a warm start
   goes on                    a scan was neither held nor stopped, after one that was
   no page port P, no console port P, no console socket
                              it isn't to be had: it's tried again after 1 s, then after 2 s, up to each
@@ -313,8 +314,9 @@ Each device:
   table = \"discrete_inputs\"      or coils, holding_registers, input_registers
   from = 0                        the first cell of the device, counted from 0
   count = 8
-  as = \"dint\"                     two registers are a value of 32 bits, and two words here, of which
-                                  the high one comes first; it may be left out
+  as = \"dint\"                     two registers are a value of 32 bits, a DINT or, with \"real\", a
+                                  REAL, and two words here, of which the high one comes first, as in
+                                  to = \"%ID0\"; it may be left out
   word_order = \"low_first\"        with it: the word that comes first at the device, or \"high_first\"
   to = \"%IX0.0\"
   [[device.write]]

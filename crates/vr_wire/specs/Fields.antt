@@ -77,6 +77,7 @@ command_tag (commands.ReadVar slot) = 7
 command_tag commands.ReadCr = 8
 command_tag commands.Reset = 9
 command_tag (commands.Change image) = 10
+command_tag commands.Warm = 11
 
 abbrev pub command_fields : Command → List ℕ
 command_fields (commands.Scan inputs moment) = cells_bytes inputs.cells ++ to_be_bytes w64 moment
@@ -90,6 +91,7 @@ command_fields (commands.ReadVar slot) = to_be_bytes w16 slot.0
 command_fields commands.ReadCr = []
 command_fields commands.Reset = []
 command_fields (commands.Change image) = counted w16 image
+command_fields commands.Warm = []
 
 abbrev pub command_bytes : Command → List ℕ
 command_bytes command = to_be_bytes w8 (command_tag command) ++ command_fields command

@@ -162,7 +162,8 @@ command_readers =
     fields_1 commands.ReadVar slot_at ∷
     fields_0 commands.ReadCr ∷
     fields_0 commands.Reset ∷
-    change_at ∷ []
+    change_at ∷
+    fields_0 commands.Warm ∷ []
 
 abbrev pub command_at : Reader Command
 command_at bytes = tagged command_readers bytes

@@ -29,6 +29,7 @@ fn command_tag(command: &Command) -> u8
         Command::ReadCr => 8,
         Command::Reset => 9,
         Command::Change(_) => 10,
+        Command::Warm => 11,
     }
 }
 
@@ -57,7 +58,9 @@ fn put_fields(out: &mut Vec<u8>, command: &Command) -> Result<(), AllocError>
             put_value(out, *value)
         }
         Command::Unforce(slot) | Command::ReadVar(slot) => put_slot(out, *slot),
-        Command::Step | Command::Continue | Command::ReadCr | Command::Reset => Ok(()),
+        Command::Step | Command::Continue | Command::ReadCr | Command::Reset | Command::Warm => Ok(
+            (),
+        ),
         Command::Change(image) => put_image(out, image),
     }
 }
@@ -133,6 +136,7 @@ fn fields_at(alloc: Global, tag: u8, bytes: &[u8]) -> Result<(Command, &[u8]), R
         8 => Ok((Command::ReadCr, bytes)),
         9 => Ok((Command::Reset, bytes)),
         10 => change_at(alloc, bytes),
+        11 => Ok((Command::Warm, bytes)),
         _ => Err(ReadError::Malformed),
     }
 }
@@ -167,7 +171,7 @@ fn fields_end(tag: u8, bytes: &[u8]) -> Result<&[u8], ReadError>
             let (_code, rest) = u16_at(bytes)?;
             Ok(rest)
         }
-        3 | 4 | 8 | 9 => Ok(bytes),
+        3 | 4 | 8 | 9 | 11 => Ok(bytes),
         5 => {
             let (_forced, rest) = force_at(bytes)?;
             Ok(rest)
