@@ -61,6 +61,7 @@ fn word_command(name: &str) -> Option<Command> {
         "continue" => Some(Command::Continue),
         "cr" => Some(Command::ReadCr),
         "reset" => Some(Command::Reset),
+        "warm" => Some(Command::Warm),
         _ => None,
     }
 }

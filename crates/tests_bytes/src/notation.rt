@@ -1,6 +1,6 @@
 //! Numbers, bytes and lines as a row writes them.
 
-use il_model::{Cells, Loc};
+use il_model::{Cells, DoubleType, Loc, Value, words_of};
 use std::alloc::{AllocError, Global};
 use std::{io, str};
 
@@ -135,12 +135,21 @@ fn put_word_at(cells: &mut Cells, place: u16, number: &str) -> Option<()> {
     put_at(&mut cells.words, place, number.parse::<i16>().ok()?)
 }
 
-/// Puts a cell as a row writes it: `%QX0.0`, which is TRUE, or `%QW0=-2`.
+/// Puts the words of a DINT, the high one first.
+fn put_double_at(cells: &mut Cells, place: u16, number: &str) -> Option<()> {
+    let value = Value::Dint(number.parse::<i32>().ok()?);
+    let (high, low) = words_of(DoubleType::Dint.pattern(value)?);
+    put_at(&mut cells.words, place, high)?;
+    put_at(&mut cells.words, place.saturating_add(1), low)
+}
+
+/// Puts a cell as a row writes it: `%QX0.0`, which is TRUE, `%QW0=-2` or `%QD0=70000`.
 fn put_cell(cells: &mut Cells, word: &str) -> Option<()> {
     let (place, number) = word.split_once('=').unwrap_or((word, "1"));
-    match il_model::location_from(place.as_bytes())? {
+    match il_model::extended_location_from(place.as_bytes())? {
         Loc::Bit(_, bit) => put_at(&mut cells.bits, bit, true),
         Loc::Word(_, place) => put_word_at(cells, place, number),
+        Loc::Double(_, place, _) => put_double_at(cells, place, number),
     }
 }
 

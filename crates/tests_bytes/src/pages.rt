@@ -4,7 +4,7 @@ use crate::notation::{behind, number_of, unreadable};
 use bytes::Bytes;
 use http::Request;
 use http_server::Response;
-use il_model::{Area, Loc, Stop};
+use il_model::{Area, Loc, Stop, Value, loc_type, make};
 use plc_figures::{
     BUCKETS, Clients, EXCEPTIONS, Halt, Machine, PLACES, Point, Process, Reading, Replica, Scans,
     Told, put_metrics, put_state,
@@ -136,6 +136,12 @@ fn process(text: &str) -> Option<Process> {
     })
 }
 
+/// The value that a row writes of a place: 0 or 1 of a bit, else a whole number.
+fn value_at(place: Loc, text: &str) -> Option<Value> {
+    let number = text.parse::<i64>().ok()?;
+    make(loc_type(place)?, number)
+}
+
 /// A point of this name, if there is a value for it.
 fn point(alloc: Global, text: &str, key: &str, name: &[u8], place: Loc) -> io::Result<Vec<Point>> {
     let mut points = Vec::new(alloc);
@@ -143,7 +149,7 @@ fn point(alloc: Global, text: &str, key: &str, name: &[u8], place: Loc) -> io::R
         points.push(Point {
             name: Vec::from_slice(alloc, name)?,
             place,
-            value: value.parse::<i64>().map_err(|_| unreadable())?,
+            value: value_at(place, value).ok_or(unreadable())?,
         })?;
     }
     Ok(points)

@@ -1,24 +1,11 @@
-//! What is heard of other epochs over connections of this machine, and visits, as before a cold start.
+//! Visits over connections of this machine, as before a cold start.
 
-use crate::peer_rows::{EPOCH, Runtime, Seat, alone, dialling, hello_of, listening, seat_of};
-use net_hello::{Epoch, Hello, Known};
-use net_peers::{FIRST_CONSOLE, VISIT, visit};
+use crate::peer_rows::{Runtime, Seat, alone, listening};
+use net_peers::{VISIT, visit};
 use std::io::{Read, Write};
 use std::process::Abort;
 use std::test::Fail;
 use std::time::Duration;
-use vr_model::{ClientNumber, Party};
-
-const LATER: Epoch = Epoch {
-    number: 8,
-    image: [3; 32],
-};
-
-/// The epoch of a machine that waits.
-const NONE: Epoch = Epoch {
-    number: 0,
-    image: [0; 32],
-};
 
 /// A visit that is filled up with this byte.
 fn frame_of(byte: u8) -> [u8; VISIT] {
@@ -69,84 +56,5 @@ fn no_other_visit_comes(rt: HostRuntime) -> Result<(), Fail> {
     let (listener, nobody) = listening(&rt)?;
     drop(listener);
     assert!(rt; !visit(&rt, nobody, &frame, Duration::from_millis(1000)));
-    Ok(())
-}
-
-/// What the replica of a machine says in an epoch.
-fn said_in(machine: u8, epoch: Epoch) -> Hello {
-    Hello {
-        epoch,
-        ..hello_of(Party::Replica(machine), 3)
-    }
-}
-
-/// Hellos that come to replica 0, of which three are of other machines' replicas in this group that haven't seen another
-/// store of machine 0.
-fn all_hellos() -> Result<[Hello; 8], Fail> {
-    let console = ClientNumber::new(FIRST_CONSOLE + 1).ok_or("no client")?;
-    Ok([
-        said_in(1, LATER),
-        said_in(2, NONE),
-        Hello {
-            identity: [3; 32],
-            ..said_in(1, LATER)
-        },
-        said_in(0, LATER),
-        said_in(3, LATER),
-        hello_of(Party::Client(console), 3),
-        Hello {
-            known: Known {
-                store: 99,
-                starts: 1,
-            },
-            ..said_in(2, EPOCH)
-        },
-        said_in(1, EPOCH),
-    ])
-}
-
-#[test]
-fn replicas_are_heard_in_whatever_epoch(rt: HostRuntime) -> Result<(), Fail> {
-    let alloc = rt.alloc();
-    let mut seat = alone(rt)?;
-    for hello in all_hellos()? {
-        let bytes = hello.spell(alloc)?;
-        let _stream = seat.meet(bytes.as_slice(), 20)?;
-    }
-    let heard = seat.hellos();
-    assert!(rt; heard.as_slice() == [(1u8, LATER), (2, NONE), (1, EPOCH)].as_slice());
-    assert!(rt; seat.hellos().is_empty());
-    Ok(())
-}
-
-/// What two in different epochs hear of one another, each: twice at least.
-fn heard_by_both<R: Runtime>(
-    rt: R,
-    seat: &mut Seat<R>,
-    other: &mut Seat<R>,
-) -> Result<(Vec<(u8, Epoch)>, Vec<(u8, Epoch)>), Fail> {
-    let (mut near, mut far) = (Vec::new(rt.alloc()), Vec::new(rt.alloc()));
-    for _ in 0..1000u32 {
-        seat.run(5)?;
-        other.run(5)?;
-        near.append(&mut seat.hellos())?;
-        far.append(&mut other.hellos())?;
-        if near.len() >= 2 && far.len() >= 2 {
-            break;
-        }
-    }
-    Ok((near, far))
-}
-
-/// Two machines in different epochs hear each other again and again, whichever of them dials.
-#[test]
-fn both_ends_hear_each_other(rt: HostRuntime) -> Result<(), Fail> {
-    let mut seat = alone(rt)?;
-    let (mut machine, listener) = dialling(rt, seat.at())?;
-    machine.epoch = LATER;
-    let mut other = seat_of(rt, &machine, listener)?;
-    let (near, far) = heard_by_both(rt, &mut seat, &mut other)?;
-    assert!(rt; near.len() >= 2 && near.iter().all(|heard| *heard == (1, LATER)));
-    assert!(rt; far.len() >= 2 && far.iter().all(|heard| *heard == (0, EPOCH)));
     Ok(())
 }

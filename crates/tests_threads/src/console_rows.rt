@@ -2,8 +2,8 @@
 //! program is changed, also while the primary crashes.
 
 use crate::clients::{connect, free_port};
-use crate::controllers::{ended, file_stores, service_of};
-use il_model::Budget;
+use crate::controllers::{ended, service_of, settings};
+use crate::faulty::stores_in;
 use io_model::Counted;
 use plc_console::send_commands;
 use plc_host::Host;
@@ -18,7 +18,6 @@ use std::process::Abort;
 use std::sync::Wait;
 use std::test::Fail;
 use std::time::Duration;
-use vr_model::Config;
 
 /// What an operator asks of the console.
 #[derive(Clone, Copy)]
@@ -487,26 +486,19 @@ impl<R: Net<Listener = TcpListener, Stream = TcpStream> + Wait + Copy + Drop> Wr
     }
 }
 
-/// How it is served: so many scans that the operator has the time for each row, at any port, with a console at this one.
-/// Others come where no replica crashes.
-fn settings(console: u16, links: Links, crash: Option<u32>) -> Option<Settings> {
+/// How it is served: so many scans that the operator has the time for each row, with a console at this port. Others come
+/// where no replica crashes.
+fn settings_of(console: u16, links: Links, crash: Option<u32>) -> Result<Settings, Fail> {
     let (idle, scans) = match crash {
         Some(_) => (20 * IDLE, 10),
         None => (IDLE, 12),
     };
-    Some(Settings {
-        config: Config::new(1, 64)?,
-        budget: Budget::new(100)?,
-        port: 0,
-        period: PERIOD,
-        scans: Some(scans),
+    Ok(Settings {
         idle,
         links,
         crash,
-        lost_after: 60,
         console: Some(ConsoleAt::Port(console)),
-        stale: None,
-        status: None,
+        ..settings(PERIOD, scans)?
     })
 }
 
@@ -522,8 +514,8 @@ fn an_operator_is_answered_the_same_over_a_crash(rt: HostRuntime) -> Result<(), 
     let alloc = rt.alloc();
     for (directory, links, crash) in CASES {
         let port = free_port(&rt)?;
-        let settings = settings(port, links, crash).ok_or("no settings")?;
-        let stores = file_stores(rt, directory)?;
+        let settings = settings_of(port, links, crash)?;
+        let stores = stores_in(rt, directory)?;
         let service = service_of(alloc, SOURCE.to_vec(alloc)?, directory, stores, settings)?;
         let mut operator = Operator {
             rt,

@@ -1,11 +1,12 @@
 //! Controllers that tests serve: what they are served from, and what they come to.
 
+use il_model::Budget;
 use io_image::NewList;
 use io_model::Counted;
 use plc_host::Host;
 use plc_listener::DoorRuntime;
 use plc_serve::{Service, serve};
-use plc_settings::{Operators, Settings};
+use plc_settings::{Links, Operators, Settings};
 use plc_status::StatusWriter;
 use std::alloc::Global;
 use std::fs::File;
@@ -15,20 +16,27 @@ use std::rt::Files;
 use std::sync::Arc;
 use std::sync::atomic::{AtomicU64, Ordering};
 use std::test::Fail;
-use std::{fs, io, str};
-use vr_threads::{FileStore, Starts};
+use std::{io, str};
+use vr_model::Config;
+use vr_threads::Starts;
 
-/// The stores of three replicas, in files of a directory. What an earlier run left there is removed.
-pub fn file_stores<R: Files + Alloc<A = Global> + Copy + Drop>(
-    rt: R,
-    directory: &str,
-) -> Result<Vec<FileStore<R>>, Fail> {
-    let _ = fs::remove_dir_all(&rt, directory);
-    let mut stores = Vec::new(rt.alloc());
-    for number in 0..3u8 {
-        stores.push(FileStore::new(rt, rt.alloc(), directory, number)?)?;
-    }
-    Ok(stores)
+/// How a controller is served, at any port: so many scans of a group of three over channels, with this period in
+/// milliseconds.
+pub fn settings(period: u32, scans: u32) -> Result<Settings, Fail> {
+    Ok(Settings {
+        config: Config::new(1, 64).ok_or("no config")?,
+        budget: Budget::new(10_000).ok_or("no budget")?,
+        port: 0,
+        period,
+        scans: Some(scans),
+        idle: 60,
+        links: Links::Channels,
+        crash: None,
+        lost_after: 60,
+        console: None,
+        stale: None,
+        status: None,
+    })
 }
 
 /// A controller of this text, with one directory for all its stores.

@@ -1,8 +1,8 @@
 //! A served controller whose replicas crash in turn: what sixteen clients see of it, and its report.
 
 use crate::clients::{connect, reply_to, request, told_port};
-use crate::controllers::{Lines, ended, file_stores, service_of};
-use il_model::Budget;
+use crate::controllers::{Lines, ended, service_of, settings};
+use crate::faulty::{Faulty, stores_in};
 use plc_host::Host;
 use plc_serve::Service;
 use plc_settings::{Links, Settings};
@@ -18,8 +18,6 @@ use std::test::Fail;
 use std::thread::{JoinHandle, Threads};
 use std::time::Clock;
 use std::{io, str, thread};
-use vr_model::Config;
-use vr_threads::FileStore;
 
 /// So many clients come at once.
 const CLIENTS: u8 = 16;
@@ -189,30 +187,16 @@ fn source(alloc: Global) -> Result<String, Fail> {
     Ok(text)
 }
 
-/// Forty scans, and a replica crashes behind every five.
-fn settings() -> Result<Settings, Fail> {
-    Ok(Settings {
-        config: Config::new(1, 64).ok_or("no config")?,
-        budget: Budget::new(10_000).ok_or("no budget")?,
-        port: 0,
-        period: 20,
-        scans: Some(40),
-        idle: 60,
+/// The controller that mirrors its inputs: forty scans, and a replica crashes behind every five.
+fn service<R: Files + Clock + Alloc<A = Global> + Copy + Drop>(
+    rt: R,
+) -> Result<Service<Faulty<R>>, Fail> {
+    let settings = Settings {
         links: Links::Tcp,
         crash: Some(5),
-        lost_after: 60,
-        console: None,
-        stale: None,
-        status: None,
-    })
-}
-
-/// The controller that mirrors its inputs.
-fn service<R: Files + Alloc<A = Global> + Copy + Drop>(
-    rt: R,
-) -> Result<Service<FileStore<R>>, Fail> {
-    let settings = settings()?;
-    let stores = file_stores(rt, "failing")?;
+        ..settings(20, 40)?
+    };
+    let stores = stores_in(rt, "failing")?;
     let source = source(rt.alloc())?;
     service_of(rt.alloc(), source.into_bytes(), "failing", stores, settings)
 }

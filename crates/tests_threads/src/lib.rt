@@ -19,7 +19,7 @@ mod controllers;
 #[cfg(test)]
 mod failing_rows;
 #[cfg(test)]
-mod falling;
+mod faulty;
 #[cfg(test)]
 mod hanging_rows;
 #[cfg(test)]
@@ -28,8 +28,6 @@ mod image_rows;
 mod link_rows;
 #[cfg(test)]
 mod listener_rows;
-#[cfg(test)]
-mod machine_rows;
 #[cfg(test)]
 mod machine_stores;
 #[cfg(test)]

@@ -4,7 +4,7 @@ ghost use Rattle.std.specs.Prelude.{◌≤◌, length};
 
 use crate::shelf::CLIENT;
 use il_model::{Command, ImageBytes, InImage};
-use net_ends::{Inbox, NonBlocking, Outbox};
+use net_ends::{Inbox, NonBlocking};
 use net_hello::{Epoch, HELLO, Hello, Known, Refusal, said_to_strangers};
 use net_peers::{
     Exchange, FIRST_CONSOLE, LinkNotice, Machine, PeerLink, Pulse, VISIT, machine_links,
@@ -20,7 +20,7 @@ use std::time::{Clock, Duration, Instant};
 use vr_model::{Body, ClientNumber, MOST_REPLICAS, Message, Party, Request};
 use vr_ports::{Cutter, Input, Link, Relink};
 
-pub(crate) const EPOCH: Epoch = Epoch {
+const EPOCH: Epoch = Epoch {
     number: 7,
     image: [2; 32],
 };
@@ -53,7 +53,7 @@ pub(crate) struct Seat<R: Runtime> {
 }
 
 /// What a party of the group says, whose machine's store has a number of its own. It knows nothing of the other end.
-pub(crate) fn hello_of(party: Party, starts: u64) -> Hello {
+fn hello_of(party: Party, starts: u64) -> Hello {
     let machine = match party {
         Party::Replica(number) => number,
         Party::Client(client) => client.number % 8,
@@ -85,7 +85,7 @@ where
 }
 
 /// A machine of three, started 3 times, which knows the replicas at these addresses.
-pub(crate) fn machine_of(alloc: Global, number: u8, at: &[SocketAddr]) -> Result<Machine, Fail> {
+fn machine_of(alloc: Global, number: u8, at: &[SocketAddr]) -> Result<Machine, Fail> {
     Ok(Machine {
         identity: [1; 32],
         epoch: EPOCH,
@@ -101,11 +101,7 @@ pub(crate) fn machine_of(alloc: Global, number: u8, at: &[SocketAddr]) -> Result
 }
 
 /// The replica of a machine. Its receives wait for 1 ms.
-pub(crate) fn seat_of<R: Runtime>(
-    rt: R,
-    machine: &Machine,
-    listener: TcpListener,
-) -> Result<Seat<R>, Fail> {
+fn seat_of<R: Runtime>(rt: R, machine: &Machine, listener: TcpListener) -> Result<Seat<R>, Fail> {
     let at = listener.local_addr()?;
     let wait = Duration::from_millis(1);
     let (exchange, links) = machine_links(rt, rt.alloc(), machine, listener, wait)?;
@@ -126,7 +122,7 @@ pub(crate) fn alone<R: Runtime>(rt: R) -> Result<Seat<R>, Fail> {
 }
 
 /// Machine 1, which dials replica 0 at this address, and its listener.
-pub(crate) fn dialling<R: Runtime>(rt: R, to: SocketAddr) -> Result<(Machine, TcpListener), Fail> {
+fn dialling<R: Runtime>(rt: R, to: SocketAddr) -> Result<(Machine, TcpListener), Fail> {
     let (listener, at) = listening(&rt)?;
     Ok((machine_of(rt.alloc(), 1, &[to, at, at])?, listener))
 }
@@ -160,12 +156,12 @@ fn request(number: u64, command: Command) -> Result<Message, Fail> {
 
 /// The number of a COMMIT, a PREPARE or a request that came; 0 of anything else.
 fn number_of(input: Input) -> u64 {
-    let Input::Message(message) = input else {
+    let Input::Message(message) = &input else {
         return 0;
     };
-    match message.body {
-        Body::Commit { commit_number, .. } => commit_number,
-        Body::Prepare { op_number, .. } => op_number,
+    match &message.body {
+        Body::Commit { commit_number, .. } => *commit_number,
+        Body::Prepare { op_number, .. } => *op_number,
         Body::Request(request) => request.number,
         _ => 0,
     }
@@ -202,11 +198,6 @@ impl<R: Runtime> Seat<R> {
     /// The visits that came since it was asked last.
     pub(crate) fn visits(&self) -> Vec<[u8; VISIT]> {
         self.exchange.visits(&self.rt, self.rt.alloc())
-    }
-
-    /// Who said hello in which epoch since it was asked last.
-    pub(crate) fn hellos(&self) -> Vec<(u8, Epoch)> {
-        self.exchange.hellos(&self.rt, self.rt.alloc())
     }
 
     /// What it noticed since it was asked last.
@@ -344,8 +335,8 @@ fn refused() -> [(Hello, Refusal); 10] {
     ]
 }
 
-/// Each is answered, closed and noticed once, though it comes twice. The last one of them is accepted, and refused
-/// where one with more starts was before it.
+/// Each is answered, closed and noticed once, though it comes twice, and so is one of another version. The last one of
+/// them is accepted, and refused where one with more starts was before it.
 #[test]
 fn each_refusal_is_answered_and_noticed_once(rt: HostRuntime) -> Result<(), Fail> {
     let mut seat = alone(rt)?;
@@ -356,13 +347,8 @@ fn each_refusal_is_answered_and_noticed_once(rt: HostRuntime) -> Result<(), Fail
         let notice = LinkNotice::Refused(Some(hello.party), refusal);
         assert!(rt; seat.is_noticed_once(bytes.as_slice(), notice)?);
     }
-    Ok(())
-}
-
-#[test]
-fn another_version_is_answered_and_noticed_once(rt: HostRuntime) -> Result<(), Fail> {
     let notice = LinkNotice::Refused(None, Refusal::OtherVersion);
-    assert!(rt; alone(rt)?.is_noticed_once(b"PLC-VR\0\x01", notice)?);
+    assert!(rt; seat.is_noticed_once(b"PLC-VR\0\x01", notice)?);
     Ok(())
 }
 
@@ -442,55 +428,8 @@ fn both_ends_are_told_of_a_refusal(rt: HostRuntime) -> Result<(), Fail> {
     Ok(())
 }
 
-/// Sends messages in records over a connection, which is given back.
-fn send_all(
-    alloc: Global,
-    stream: TcpStream,
-    messages: &[Message],
-) -> Result<Records<NonBlocking<TcpStream>>, Fail> {
-    let mut outbox = Outbox::new(alloc);
-    for message in messages {
-        outbox.put(alloc, message)?;
-    }
-    let mut records = Records::new(alloc, NonBlocking::new(stream))?;
-    if outbox.flush(&mut records) {
-        Ok(records)
-    } else {
-        Err(Fail::new("over"))
-    }
-}
-
-/// What is given of these messages, which the party that says this hello sends in records: their numbers, added up.
-fn given_of_all<R: Runtime>(
-    seat: &mut Seat<R>,
-    hello: Hello,
-    messages: &[Message],
-) -> Result<u64, Fail> {
-    let alloc = seat.rt.alloc();
-    let stream = stranger(seat.rt, seat.at, hello.spell(alloc)?.as_slice())?;
-    let _records = send_all(alloc, stream, messages)?;
-    seat.run(50)
-}
-
-/// Of what comes over a connection neither what isn't from its party to this one is given, nor a scan.
-#[test]
-fn only_what_may_pass_is_given(rt: HostRuntime) -> Result<(), Fail> {
-    let mut seat = alone(rt)?;
-    let messages = [commit(2, 0, 1000), commit(1, 2, 1000), commit(1, 0, 5)];
-    let replica = hello_of(Party::Replica(1), 3);
-    assert_eq!(rt; given_of_all(&mut seat, replica, &messages)?, 5);
-    let scan = Command::Scan {
-        inputs: InImage::clear(),
-        moment: 0,
-    };
-    let messages = [request(1000, scan)?, request(7, Command::Step)?];
-    let console = hello_of(messages[1].from, 3);
-    assert_eq!(rt; given_of_all(&mut seat, console, &messages)?, 7);
-    Ok(())
-}
-
 /// Of the links of a machine that of its replica, and that of its driver.
-pub(crate) fn replica_and_driver<L: Drop>(links: Vec<L>) -> Option<(L, L)> {
+fn replica_and_driver<L: Drop>(links: Vec<L>) -> Option<(L, L)> {
     let mut links = links.into_iter();
     let replica = links.next()?;
     Some((replica, links.next()?))

@@ -2,7 +2,7 @@
 
 use crate::clients::{ALL, Step, Visit, free_port, visit_once_told};
 use crate::controllers::{Lines, served};
-use crate::falling::{Falling, with_falling};
+use crate::faulty::{Faulty, with_falling};
 use plc_host::Host;
 use plc_listener::DoorRuntime;
 use plc_serve::Service;
@@ -455,11 +455,12 @@ fn asked<R: Files + Alloc<A = Global> + Copy + Drop>(
 }
 
 /// The same, but so many of the first stores fall as the row says.
-fn falling<S: Drop>(
+fn falling<R: Files + Clock + Copy + Drop>(
+    rt: R,
     alloc: Global,
-    service: Service<S>,
+    service: Service<FileStore<R>>,
     row: &Row,
-) -> Result<Service<Falling<S>>, AllocError> {
+) -> Result<Service<Faulty<R>>, AllocError> {
     let Service {
         source,
         directories,
@@ -469,7 +470,7 @@ fn falling<S: Drop>(
         showing,
         operators,
     } = service;
-    let stores = with_falling(alloc, stores, row.falls, row.starts)?;
+    let stores = with_falling(rt, alloc, stores, row.falls, row.starts)?;
     Ok(Service {
         source,
         directories,
@@ -482,12 +483,12 @@ fn falling<S: Drop>(
 }
 
 /// What a row asks to serve, with its text in a file.
-fn prepared<R: Files + Alloc<A = Global> + Copy + Drop>(
+fn prepared<R: Files + Clock + Alloc<A = Global> + Copy + Drop>(
     rt: R,
     row: &Row,
     in_use: u16,
     console: u16,
-) -> Result<Service<Falling<FileStore<R>>>, Fail> {
+) -> Result<Service<Faulty<R>>, Fail> {
     fs::write(&rt, "served.il", row.source)?;
     let port = match row.port {
         Port::InUse => in_use,
@@ -498,7 +499,7 @@ fn prepared<R: Files + Alloc<A = Global> + Copy + Drop>(
         _ => None,
     };
     let service = asked(rt, row, port, console)?;
-    Ok(falling(rt.alloc(), service, row)?)
+    Ok(falling(rt, rt.alloc(), service, row)?)
 }
 
 /// The file of the first replica's store.

@@ -8,7 +8,7 @@ use std::test::Fail;
 use vr_model::{Body, Message, Party, Request, Standing, Status};
 use vr_ports::{Gate, Input, Link, Tick, Timer};
 use vr_replica::Replica;
-use vr_shown::{Shown, ShownWriter};
+use vr_shown::ShownWriter;
 use vr_threads::{Observer, Seat, serve};
 
 /// What a receive gives: the request of this number, from client 0.
@@ -221,33 +221,32 @@ fn serve_first<R: Abort + Copy + Drop>(
     Ok(())
 }
 
-/// Replica 0 is served in this seat for so many turns: what shows of it at the end, which the timer has to be told too.
-fn shown_of<R: Abort + Copy + Drop>(
+/// Replica 0 is served in this seat for so many turns. Its timer has to be told what shows of it at the end.
+fn serve_and_look<R: Abort + Copy + Drop>(
     alloc: Global,
     seat: &mut ScriptedSeat<'_, '_, R>,
     turns: u64,
-) -> Result<Shown, Fail> {
+) -> Result<(), Fail> {
     let mut shown = ShownWriter::new(alloc)?;
     serve_first(alloc, seat, &mut shown, turns)?;
-    let read = shown.reader()?.read();
-    if read.standing == seat.timer.standing {
-        Ok(read)
+    if shown.reader()?.read().standing == seat.timer.standing {
+        Ok(())
     } else {
         Err(Fail::new("the timer was told something else"))
     }
 }
 
-/// Replica 0 is served for so many turns. The counts, and what shows of it at the end.
+/// Replica 0 is served for so many turns: the counts.
 fn served<R: Abort + Copy + Drop>(
     rt: R,
     alloc: Global,
     turns: u64,
     ticks: &[Tick],
     inputs: &[Given],
-) -> Result<(Counts, Shown), Fail> {
+) -> Result<Counts, Fail> {
     let mut seat = scripted_seat(rt, alloc, ticks, inputs);
-    let shown = shown_of(alloc, &mut seat, turns)?;
-    Ok((counts_of(&seat), shown))
+    serve_and_look(alloc, &mut seat, turns)?;
+    Ok(counts_of(&seat))
 }
 
 /// A request, PREPARE to two; resend, the same; nothing; the request again, which is dropped; a timeout, which begins a
@@ -268,65 +267,26 @@ const INPUTS: [Given; 4] = [
     Given::Closed,
 ];
 
+/// For how many turns it's served, and the counts then.
+const ROWS: [(u64, Counts); 6] = [
+    (0, (0, 0, 0, 0, 0, 0)),
+    (1, (1, 1, 1, 2, 1, 1)),
+    (2, (2, 1, 1, 4, 2, 2)),
+    (4, (4, 3, 2, 4, 3, 3)),
+    (5, (5, 3, 2, 6, 4, 3)),
+    (100, (6, 4, 2, 6, 4, 3)),
+];
+
 #[test]
 fn each_turn_takes_one_event(rt: HostRuntime) -> Result<(), Fail> {
     let alloc = rt.alloc();
-    assert_eq!(rt;
-        served(rt, alloc, 0, &TICKS, &INPUTS)?.0,
-        (0, 0, 0, 0, 0, 0)
-    );
-    assert_eq!(rt;
-        served(rt, alloc, 1, &TICKS, &INPUTS)?.0,
-        (1, 1, 1, 2, 1, 1)
-    );
-    assert_eq!(rt;
-        served(rt, alloc, 2, &TICKS, &INPUTS)?.0,
-        (2, 1, 1, 4, 2, 2)
-    );
-    assert_eq!(rt;
-        served(rt, alloc, 4, &TICKS, &INPUTS)?.0,
-        (4, 3, 2, 4, 3, 3)
-    );
-    assert_eq!(rt;
-        served(rt, alloc, 5, &TICKS, &INPUTS)?.0,
-        (5, 3, 2, 6, 4, 3)
-    );
-    assert_eq!(rt;
-        served(rt, alloc, 100, &TICKS, &INPUTS)?.0,
-        (6, 4, 2, 6, 4, 3)
-    );
-    assert_eq!(rt; served(rt, alloc, 9, &[], &[])?.0, (9, 9, 0, 0, 0, 0));
-    Ok(())
-}
-
-/// What shows of a replica in this status and view; it was never started.
-const fn showing(status: Status, view: u64, is_primary: bool) -> Shown {
-    Shown {
-        standing: Standing {
-            status,
-            view,
-            is_primary,
-        },
-        starts: 0,
-        has_failed: false,
-        tries: 0,
-        is_served: false,
-        frameless: 0,
+    for (turns, counts) in ROWS {
+        assert_eq!(rt;
+            served(rt, alloc, turns, &TICKS, &INPUTS)?,
+            counts,
+            "{turns}"
+        );
     }
-}
-
-/// Before its first step a replica shows what it showed before it was served.
-#[test]
-fn each_step_shows(rt: HostRuntime) -> Result<(), Fail> {
-    let alloc = rt.alloc();
-    let normal = showing(Status::Normal, 0, true);
-    let changing = showing(Status::ViewChange, 1, false);
-    assert_eq!(rt;
-        served(rt, alloc, 0, &TICKS, &INPUTS)?.1,
-        showing(Status::Down, 0, false)
-    );
-    assert_eq!(rt; served(rt, alloc, 1, &TICKS, &INPUTS)?.1, normal);
-    assert_eq!(rt; served(rt, alloc, 4, &TICKS, &INPUTS)?.1, normal);
-    assert_eq!(rt; served(rt, alloc, 100, &TICKS, &INPUTS)?.1, changing);
+    assert_eq!(rt; served(rt, alloc, 9, &[], &[])?, (9, 9, 0, 0, 0, 0));
     Ok(())
 }

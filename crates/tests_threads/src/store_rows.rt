@@ -1,5 +1,6 @@
 //! A store on real files.
 
+use std::alloc::Global;
 use std::io::Write;
 use std::process::Abort;
 use std::rt::Files;
@@ -77,48 +78,14 @@ fn a_store_keeps_what_it_saved(rt: HostRuntime) -> Result<(), Fail> {
         [0u8, 0, 0, 0, 0, 0, 0, 5, 0, 0, 0, 0, 0, 0, 0, 3].as_slice()
     );
     assert!(rt; !fs::exists(&rt, "replica-200.new")?);
-    assert_eq!(rt; (first.faults(), again.faults()), (2, 0));
+    // What it did not leave there itself is a fault.
+    put(&rt, "replica-200", &[1u8; 16])?;
+    assert_eq!(rt;
+        otherwise_answered(&mut again, &[(Call::Load, Err(StoreFault))]),
+        None
+    );
+    assert_eq!(rt; (first.faults(), again.faults()), (2, 1));
     fs::remove_file(&rt, "replica-200")?;
-    Ok(())
-}
-
-#[test]
-fn a_file_that_no_start_left_is_a_fault(rt: HostRuntime) -> Result<(), Fail> {
-    let alloc = rt.alloc();
-    let bytes = [255u8; 17];
-    for length in [0usize, 1, 15, 17] {
-        put(&rt, "replica-201", &bytes[..length])?;
-        let mut store = FileStore::new(rt, alloc, ".", 201)?;
-        assert_eq!(rt; store.load(), Err(StoreFault));
-        assert_eq!(rt; store.begin(), Err(StoreFault));
-        assert_eq!(rt; store.faults(), 2);
-    }
-    put(&rt, "replica-201", &bytes[..16])?;
-    let mut store = FileStore::new(rt, alloc, ".", 201)?;
-    assert_eq!(rt; store.load(), Ok(stored(u64::MAX, u64::MAX)));
-    assert_eq!(rt; store.begin(), Err(StoreFault));
-    for view in [0u8, 5] {
-        let unstarted = [0u8, 0, 0, 0, 0, 0, 0, view, 0, 0, 0, 0, 0, 0, 0, 0];
-        put(&rt, "replica-201", &unstarted)?;
-        let mut store = FileStore::new(rt, alloc, ".", 201)?;
-        assert_eq!(rt; store.begin(), Err(StoreFault));
-    }
-    fs::remove_file(&rt, "replica-201")?;
-    Ok(())
-}
-
-#[test]
-fn a_value_that_the_store_did_not_leave_is_a_fault(rt: HostRuntime) -> Result<(), Fail> {
-    let mut store = FileStore::new(rt, rt.alloc(), ".", 202)?;
-    let _ = fs::remove_file(&rt, store.path());
-    assert_eq!(rt; store.begin(), Ok(stored(0, 1)));
-    put(
-        &rt,
-        "replica-202",
-        &[0u8, 0, 0, 0, 0, 0, 0, 9, 0, 0, 0, 0, 0, 0, 0, 1],
-    )?;
-    assert_eq!(rt; store.load(), Err(StoreFault));
-    fs::remove_file(&rt, "replica-202")?;
     Ok(())
 }
 
@@ -155,32 +122,50 @@ fn a_file_that_was_taken_away_is_put_back(rt: HostRuntime) -> Result<(), Fail> {
     Ok(fs::remove_dir_all(&rt, "replaced")?)
 }
 
-#[test]
-fn a_directory_that_is_not_there_is_a_fault_of_the_save(rt: HostRuntime) -> Result<(), Fail> {
-    let mut store = FileStore::new(rt, rt.alloc(), "no-such-directory", 0)?;
-    assert_eq!(rt; store.load(), Ok(stored(0, 0)));
-    assert_eq!(rt; store.save(1), Err(StoreFault));
-    assert_eq!(rt; store.save(2), Err(StoreFault));
-    assert_eq!(rt; store.load(), Ok(stored(0, 0)));
-    Ok(())
+/// Whether a store that is opened here can neither be loaded nor started, and counts both.
+fn is_fault<R: Files + Alloc<A = Global> + Copy + Drop>(
+    rt: R,
+    directory: &str,
+    number: u8,
+) -> Result<bool, Fail> {
+    let mut store = FileStore::new(rt, rt.alloc(), directory, number)?;
+    let rows: [(Call, Answer); 2] = [
+        (Call::Load, Err(StoreFault)),
+        (Call::Begin, Err(StoreFault)),
+    ];
+    Ok(otherwise_answered(&mut store, &rows).is_none() && store.faults() == 2)
 }
 
-/// What isn't there is no start; what can't be read is a fault, and never a first start: a directory in the file's
-/// place, and a file where its directory should be.
+/// Bytes that no start left: none, too few, too many, no start counted, with a view and without.
+const UNREADABLE: [&[u8]; 6] = [
+    b"",
+    b"\xff",
+    b"\xff\xff\xff\xff\xff\xff\xff\xff\xff\xff\xff\xff\xff\xff\xff",
+    b"\xff\xff\xff\xff\xff\xff\xff\xff\xff\xff\xff\xff\xff\xff\xff\xff\xff",
+    b"\0\0\0\0\0\0\0\0\0\0\0\0\0\0\0\0",
+    b"\0\0\0\0\0\0\0\x05\0\0\0\0\0\0\0\0",
+];
+
+/// What isn't there is no start; what can't be read is a fault, and never a first start: other bytes than a start left, a
+/// directory in the file's place, and a file where its directory should be. No start comes behind the last number.
 #[test]
 fn what_cannot_be_read_is_no_first_start(rt: HostRuntime) -> Result<(), Fail> {
+    for bytes in UNREADABLE {
+        put(&rt, "replica-201", bytes)?;
+        assert!(rt; is_fault(rt, ".", 201)?);
+    }
+    put(&rt, "replica-201", &[255; 16])?;
+    let mut store = FileStore::new(rt, rt.alloc(), ".", 201)?;
+    let rows: [(Call, Answer); 2] = [
+        (Call::Load, Ok(Some(stored(u64::MAX, u64::MAX)))),
+        (Call::Begin, Err(StoreFault)),
+    ];
+    assert_eq!(rt; otherwise_answered(&mut store, &rows), None);
     let _ = fs::remove_dir_all(&rt, "replica-203");
     fs::create_dir_all(&rt, "replica-203")?;
-    put(&rt, "no-directory", &[0u8; 16])?;
-    for (directory, number) in [(".", 203u8), ("no-directory", 0)] {
-        let mut store = FileStore::new(rt, rt.alloc(), directory, number)?;
-        assert_eq!(rt; store.load(), Err(StoreFault));
-        assert_eq!(rt; store.begin(), Err(StoreFault));
-        assert_eq!(rt; store.faults(), 2);
-    }
+    assert!(rt; is_fault(rt, ".", 203)? && is_fault(rt, "replica-201", 0)?);
     fs::remove_dir_all(&rt, "replica-203")?;
-    fs::remove_file(&rt, "no-directory")?;
-    Ok(())
+    Ok(fs::remove_file(&rt, "replica-201")?)
 }
 
 /// A process counts one start, and each start has a number that's higher than those before it, in this process and in

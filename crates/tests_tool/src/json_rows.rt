@@ -44,7 +44,7 @@ fn scans_in_json_give_their_images(rt: HostRuntime) -> Result<(), Fail> {
 
 #[test]
 fn commands_without_a_name(rt: HostRuntime) -> Result<(), Fail> {
-    let text = br#"[{"break":2}, {"clear":65535}, "step", "continue", "cr", "reset"]"#;
+    let text = br#"[{"break":2}, {"clear":65535}, "step", "continue", "cr", "reset", "warm"]"#;
     let wanted = [
         Command::SetBreak(2),
         Command::ClearBreak(65535),
@@ -52,6 +52,7 @@ fn commands_without_a_name(rt: HostRuntime) -> Result<(), Fail> {
         Command::Continue,
         Command::ReadCr,
         Command::Reset,
+        Command::Warm,
     ];
     are(&rt, rt.alloc(), text, &wanted)
 }

@@ -1,7 +1,7 @@
 use Rattle.std.proofs.Common.{◌≡◌, ap, sym, ◌∙◌, map-id, length}
 use Rattle.std.proofs.lemmas.Iterator.Consumers.{YieldsList-end}
 use Rattle.std.proofs.lemmas.Iterator.Adapters.{YieldsList-from_vec}
-use Rattle.tests_threads.proofs.falling.with_falling.Goals as goal
+use Rattle.tests_threads.proofs.faulty.with_falling.Goals as goal
 
 pub returns : goal.returns
 returns g c =
