@@ -1,0 +1,126 @@
+//! Runs groups of machines by virtual time, from seeds, and says of each whether all that happened is as the table
+//! says. A seed gives the same run each time, to the bit.
+//!
+//! ```text
+//! sim_group 1..20                      twenty groups for 60 virtual seconds each, with faults
+//! sim_group seconds=10 calm 1..6       six groups without faults
+//! sim_group f=2 latency=300 trace 7    one group of five machines, and what happened
+//! ```
+//!
+//! Words: `calm` or `faults`; `trace`; `seconds=`, `f=` (1 to 3), `period=` (ms), `latency=` (microseconds, one way),
+//! `every=` (entries between checkpoints), `drift=` (millionths by which clocks differ at most): for the seeds behind
+//! them. What isn't said is drawn by the seed, so a seed is a run only together with these words. Some lines for each
+//! seed; status 1 where something is wrong, 2 where a word is none of these.
+//!
+//! A machine is the values of `node_core`, with real replicas, and real values for connections (`Course`, `judge`), its
+//! stage (`StageBook`) and clients; its disk is a value, and so are frames: no byte of one is written or read. Faults:
+//! a process is killed, a machine loses its power, stands still, is cut off, one way or both; segments are lost; a disk
+//! is full, slow or lost; an operator stops a machine, and forces outputs. Left out: threads, sockets and files
+//! themselves, changes of the program, field devices, pages, a console's session.
+//!
+//! Checked at each step (`sim_checker`): each entry that a replica executes is that of its epoch's one history, which a
+//! controller of its own executes, too; moments and what clients wrote never fall; each output is that of its scan; no
+//! read shows less than one before. Behind the last fault all is well within 15 s, a takeover takes 250 ms and eight
+//! times what a segment takes at most, a cold start 4 s from the last machine's start on.
+//!
+//! Each call is safe and returns; all else is by its code alone. What `sim_time`, `sim_checker` and `sim_machine` prove
+//! of agendas, disks and verdicts is at their heads.
+#![tactic(auto)]
+
+mod happening;
+mod lives;
+mod plan;
+mod report;
+mod serving;
+mod traffic;
+mod troubles;
+mod turns;
+mod words;
+mod world;
+
+use crate::report::tell_run;
+use crate::words::{Said, Words};
+use crate::world::World;
+use il_model::Budget;
+use net_hello::Epoch;
+use sim_machine::{Asked, Program, setup_of};
+use sim_time::SECOND;
+use std::alloc::Global;
+use std::process::ExitCode;
+use std::{env, io};
+
+/// Counts its scans and shows what was written.
+const PROGRAM: &[u8] = b"VAR
+n : INT;
+END_VAR
+LD n
+ADD 1
+MOD 30000
+ST n
+ST %QW0
+LD %IW0
+ST %QW1
+LD %IW1
+ST %QW2
+";
+
+/// What each group runs.
+fn program(alloc: Global) -> Option<Program> {
+    Some(Program {
+        image: il_text::image(alloc, PROGRAM).ok()?,
+        budget: Budget::new(10_000)?,
+        epoch: Epoch {
+            number: 1,
+            image: [7; 32],
+        },
+    })
+}
+
+/// The run of a seed, until that virtual time or until something is wrong; none where there is no group so, or memory
+/// runs out.
+fn run(alloc: Global, seed: u64, asked: &Asked, until: u64) -> Option<World> {
+    let setup = setup_of(seed, asked)?;
+    let mut world = World::new(alloc, setup, program(alloc)?).ok()??;
+    world.run(until).ok()?;
+    Some(world)
+}
+
+/// Runs these seeds: whether all is as the table says.
+fn run_seeds(rt: &HostRuntime, words: &Words, first: u64, last: u64) -> io::Result<bool> {
+    let until = words.seconds.saturating_mul(SECOND);
+    let mut is_right = true;
+    for seed in first..=last {
+        let is_so = match run(rt.alloc(), seed, &words.asked, until) {
+            Some(world) => tell_run(rt, &world)?,
+            None => {
+                println!(rt; "seed {seed}: no run")?;
+                false
+            }
+        };
+        is_right = is_right && is_so;
+    }
+    Ok(is_right)
+}
+
+fn main(rt: HostRuntime) -> io::Result<ExitCode> {
+    let given: Vec<String> = env::args(&rt)?.collect(rt.alloc())?;
+    let mut words = Words::new();
+    let mut is_right = true;
+    for word in given.iter().skip(1) {
+        match words.take(word.as_str()) {
+            Said::Set => {}
+            Said::Seeds(first, last) => {
+                is_right = run_seeds(&rt, &words, first, last)? && is_right;
+            }
+            Said::Unknown => {
+                println!(rt; "no word of a call: {word}")?;
+                return Ok(ExitCode::from(2));
+            }
+        }
+    }
+    Ok(if is_right {
+        ExitCode::SUCCESS
+    } else {
+        ExitCode::from(1)
+    })
+}
