@@ -1,4 +1,4 @@
-# make demo [EXAMPLE=crossing|bottles|motor|tank|pumps|interlock|meter|cistern|furnace]   runs plc on a real program, and prints a line for each scan
+# make demo [EXAMPLE=crossing|bottles|motor|tank|pumps|interlock|meter|cistern|furnace|heat|mixer]   runs plc on a real program, and prints a line for each scan
 # make demo IL=FILE.il COMMANDS=FILE.json     the same for a program of your own
 # make demo EXAMPLE=bottles SESSION=_session  a session of the debugger with that program
 # make standby [SCHEDULE=crash|failover|lost]  three replicas of the motor: one crashes between two scans and comes back
@@ -9,6 +9,7 @@
 # make failover-machines [TO=..]              the same tank on three machines, each a process, of which the one that drives is killed again and again: half a minute, and its picture (with build/plc)
 # make field [TO=build/field.svg]             the motor at a Modbus coupler that is stopped and comes back, carried by plc field: ten seconds, and its picture (with build/plc)
 # make plc [JOBS=2]                           proves the program and builds it: build/plc; so many crates at once, or as many as there are processors and memory for
+# make simulate [WORDS="f=2 1..20"] [JOBS=2]    proves the simulator and runs groups of machines by virtual time from these seeds: build/sim_group (crates/sim_group/src/main.rt has its words)
 # make install [PREFIX=/usr/local] [DESTDIR=]  puts the proved program, its man page, the documents, number-lines, the examples and systemd units there
 # make uninstall [PREFIX=..] [DESTDIR=..]       takes away what install puts there
 # make test                                   the whole gate: that the rows of the examples are those of examples/, the table of crates is that of crates.txt, AUDIT names what is there and the pictures are those of examples/, and then rt ci
@@ -24,7 +25,7 @@ PICTURE := $(if $(SCHEDULE),schedule,run)
 SCHEDULE ?= crash
 EVENTS = examples/motor_$(SCHEDULE).json
 
-.PHONY: demo standby serve picture picture-run picture-schedule failover failover-machines field plc install uninstall test
+.PHONY: demo standby serve picture picture-run picture-schedule failover failover-machines field plc simulate install uninstall test
 
 # make plc leaves the sum of the sources that it proved, and that of the program: so it's known whether build/plc is these
 # sources' proved program. Where it isn't, the same sources are built and run, unproved.
@@ -73,7 +74,7 @@ picture-run:
 	@mkdir -p build
 	@lines=$(if $(filter command,$(origin IL) $(origin COMMANDS)),,$(COMMANDS:.json=.txt)); if [ ! -e "$$lines" ]; then lines=build/lines.txt; $(BUILT) && build/plc run $(IL) $(COMMANDS) > $$lines || exit 1; fi; \
 	picture=build/$(basename $(notdir $(COMMANDS))).svg; \
-	tools/timeline --svg --il $(IL) $(COMMANDS) $$lines > $$picture && tools/timeline $(COMMANDS) $$lines && echo "-- the same as a picture: $$picture"
+	tools/timeline --svg --il $(IL) $(COMMANDS) $$lines > $$picture && tools/timeline --il $(IL) $(COMMANDS) $$lines && echo "-- the same as a picture: $$picture"
 
 picture-schedule: EXAMPLE = motor
 picture-schedule:
@@ -104,6 +105,12 @@ plc:
 	cd crates/plc && rt run -- --version
 	mkdir -p build && cp crates/plc/out/plc build/plc
 	@$(STAMP) > build/plc.stamp
+
+simulate:
+	tools/make-libraries $(if $(JOBS),--jobs $(JOBS)) sim_group
+	cd crates/sim_group && rt run
+	mkdir -p build && cp crates/sim_group/out/sim_group build/sim_group
+	build/sim_group $(if $(WORDS),$(WORDS),$$(cat crates/sim_group/args))
 
 PREFIX ?= /usr/local
 BIN = $(DESTDIR)$(PREFIX)/bin

@@ -401,9 +401,16 @@ def is_scan(it):
     return isinstance(it, dict) and set(it) == {'ix', 'iw', 'moment'} and is_number(it['moment'])
 
 
+DOUBLES = '%D'  # stands for the double words among the names of a text
+
+
 def is_known(name, names):
     """A location, or a declared name with or without a field; `names` None takes any."""
-    return isinstance(name, str) and (names is None or name.startswith('%') or name.split('.')[0].upper() in names)
+    if not isinstance(name, str) or names is None:
+        return isinstance(name, str)
+    if name.startswith('%'):
+        return name[2:3].upper() != 'D' or DOUBLES in names
+    return name.split('.')[0].upper() in names
 
 
 def is_hex(it):
@@ -412,7 +419,7 @@ def is_hex(it):
 
 def is_command(it, names):
     if isinstance(it, str):
-        return it in ('step', 'continue', 'cr', 'reset')
+        return it in ('step', 'continue', 'cr', 'reset', 'warm')
     if not isinstance(it, dict) or len(it) != 1:
         return False
     (name, given), = it.items()
@@ -434,11 +441,13 @@ def is_event(it, names):
 
 
 def declared(source):
-    """The names that a text declares, in capitals: read off its VAR blocks, so of a good text alone."""
+    """The names that a text declares, in capitals: read off its VAR blocks, so of a good text alone. A text that begins with VAR_GLOBAL has
+    DOUBLES among them."""
     bare = re.sub(r'(?s)\(\*.*?\*\)', ' ', source)
-    blocks = re.findall(r'(?is)(?<![\w.])VAR(?:_GLOBAL)?\b(.*?)\bEND_VAR\b', bare)
-    return {name.strip().upper() for block in blocks for item in block.split(';')
-            for name in re.split(r'(?i)\bAT\b', item.partition(':')[0])[0].split(',') if name.strip()}
+    blocks = re.findall(r'(?is)(?<![\w.])VAR(?:_GLOBAL(?:\s+(?:NON_)?RETAIN)?)?\b(.*?)\bEND_VAR\b', bare)
+    names = {name.strip().upper() for block in blocks for item in block.split(';')
+             for name in re.split(r'(?i)\bAT\b', item.partition(':')[0])[0].split(',') if name.strip()}
+    return names | ({DOUBLES} if re.match(r'(?i)\s*VAR_GLOBAL\b', bare) else set())
 
 
 def schedule_of(text, source=None):
