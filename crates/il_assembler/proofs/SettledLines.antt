@@ -20,7 +20,7 @@ use Rattle.il_model.specs.Program.{Program}
 use Rattle.il_model.specs.Checking.{shape_at, typing_end}
 use Rattle.il_model.specs.Marks.{with_mark, marks_from, word_count, words_in, address_of}
 use Rattle.il_model.specs.declared.codes.Version.{Version}
-use Rattle.il_model.specs.Image.{op_version, operand_version, may_have, may_name, may_write}
+use Rattle.il_model.specs.Image.{op_version, operand_version, may_have, may_label, may_name, may_write}
 use Rattle.il_model.specs.Kinds.{any_field, field_type}
 use Rattle.il_model.specs.Values.{typed_value}
 use Rattle.il_model.proofs.Versions.{all_passed}
@@ -125,8 +125,8 @@ same_arguments version xs = all_passed version (map settled_argument xs) ∙ sam
 
 same_line : (version : Version) (cr : Option Ty) (line : Instr) → may_write version (settled_line cr line) ≡ may_write version line
 same_line version cr line =
-    ap (λ (v : Version). may_have version (op_version line.op) && (may_have version v && list_all (may_name version) (map (λ (a : Argument). a.operand) (map settled_argument line.arguments)))) (same_operand cr line.op line.modifier line.operand)
-    ∙ ap (λ (b : Bool). may_have version (op_version line.op) && (may_name version line.operand && b)) (same_arguments version line.arguments)
+    ap (λ (v : Version). may_label version line.label && (may_have version (op_version line.op) && (may_have version v && list_all (may_name version) (map (λ (a : Argument). a.operand) (map settled_argument line.arguments))))) (same_operand cr line.op line.modifier line.operand)
+    ∙ ap (λ (b : Bool). may_label version line.label && (may_have version (op_version line.op) && (may_name version line.operand && b))) (same_arguments version line.arguments)
 
 pub same_writes : (version : Version) (ps qs : List Instr) → AreSettledLines ps qs → list_all (may_write version) ps ≡ list_all (may_write version) qs
 same_writes version [] [] are = refl

@@ -73,7 +73,7 @@ fn short_bits(v: Value) -> u32
         Value::Int(z) => i32::from(z).cast_unsigned(),
         Value::Dint(z) => z.cast_unsigned(),
         Value::Time(z) => z.cast_unsigned(),
-        Value::Lint(_) | Value::Real(_) => unreachable!(),
+        Value::Lint(_) | Value::Real(_) | Value::Word(_) | Value::Dword(_) => unreachable!(),
     }
 }
 

@@ -1,5 +1,5 @@
 -- What more bytes change: what was read stays, what was cut off may go on, and every other fault stays a fault.
-use Rattle.std.proofs.Common.{◌≡◌, ℕ, zero, suc, ◌-◌, ◌<◌, ◌≤◌, Bool, true, false, cond, ltb, List, [], ◌∷◌, ◌++◌, length, take, drop, Option, Some, None, Result, Ok, Err, refl, sym, ap, subst, ◌∙◌, arith, inl, inr}
+use Rattle.std.proofs.Common.{◌≡◌, ℕ, zero, suc, ◌-◌, ◌<◌, ◌≤◌, Bool, true, false, cond, ltb, List, [], ◌∷◌, ◌++◌, length, take, drop, Option, Some, None, Result, Ok, Err, refl, sym, ap, subst, ◌∙◌, arith, inl, inr, ◌&&◌}
 use Rattle.std.specs.Prelude.{◌⊎◌, nat_le, nat_eq}
 use Rattle.std.specs.Int.{Width, w8, w16, w32, byte_len, from_be_bytes}
 use Rattle.std.proofs.lemmas.Bool.{ltb-false, le-ltb, ne_eqb}
@@ -13,9 +13,9 @@ use Rattle.il_model.specs.declared.program.Instance.{Instance}
 use Rattle.il_model.specs.declared.program.Side.{Side}
 use Rattle.il_model.specs.Program.{Program, Declarations}
 use Rattle.il_model.specs.Marks.{Mark}
-use Rattle.il_model.specs.Image.{magic, number_width, spelling}
+use Rattle.il_model.specs.Image.{magic, number_width, may_call, spelling}
 use Rattle.il_model.specs.Kinds.{kind_of_code}
-use Rattle.il_model.specs.Codes.{is_new_name, is_new_instance, is_new_label, length_of, type_in, retained_in, version_numbered, coded_location_in, initial_of, constant_of, op_in, letters_of, word_operand_in, side_of, argument_number, argument_operand_in}
+use Rattle.il_model.specs.Codes.{is_new_name, is_new_instance, is_new_label, length_in, type_in, retained_in, version_numbered, coded_location_in, initial_of, constant_of, op_in, letters_of, word_operand_in, side_of, argument_number, argument_operand_in}
 use Rattle.il_model.specs.Fits.{IsImage}
 use Rattle.il_loader.specs.declared.counts.Counts.{Counts}
 use Rattle.il_loader.specs.declared.fault.LoadFault.{LoadFault}
@@ -130,17 +130,17 @@ header_grows bytes more =
 
 -- ---- records
 
-spelled_grows : (p q : ℕ) (bytes more : List ℕ) → Grows (grown more) (spelled_name_at p bytes) (spelled_name_at q (bytes ++ more))
+spelled_grows : (version : Version) (p q : ℕ) (bytes more : List ℕ) → Grows (grown more) (spelled_name_at version p bytes) (spelled_name_at version q (bytes ++ more))
 unfolding spelled_name_at
-spelled_grows p q bytes more =
+spelled_grows version p q bytes more =
     binds (grown more) _ _ _ _ _ (number_grows w8 bytes more) (λ first.
-    binds id_at _ _ _ _ _ (lawful_grows p q (length_of first.0)) (λ n. piece_grows (λ xs. xs) n first.1 more))
+    binds id_at _ _ _ _ _ (lawful_grows p q (length_in version first.0)) (λ n. piece_grows (λ xs. xs) n first.1 more))
 
-name_grows : (p q : ℕ) (is_new : List ℕ → Bool) (bytes more : List ℕ) → Grows (grown more) (name_at p is_new bytes) (name_at q is_new (bytes ++ more))
+name_grows : (version : Version) (p q : ℕ) (is_new : List ℕ → Bool) (bytes more : List ℕ) → Grows (grown more) (name_at version p is_new bytes) (name_at version q is_new (bytes ++ more))
 unfolding name_at
-name_grows p q is_new bytes more =
-    binds (grown more) _ _ _ _ _ (spelled_grows p q bytes more) (λ name.
-    binds id_at _ _ _ _ _ (agrees_grows (BadWord p) (BadWord q) (is_new name.0)) (λ u. refl))
+name_grows version p q is_new bytes more =
+    binds (grown more) _ _ _ _ _ (spelled_grows version p q bytes more) (λ name.
+    binds id_at _ _ _ _ _ (agrees_grows (BadWord p) (BadWord q) (may_call version name.0 && is_new name.0)) (λ u. refl))
 
 first_value_grows : (version : Version) (p q : ℕ) (type : Ty) (loc : Option Loc) (bytes more : List ℕ) → Grows (grown more) (first_value_at version p type loc bytes) (first_value_at version q type loc (bytes ++ more))
 unfolding first_value_at
@@ -159,7 +159,7 @@ unfolding variable_at
 variable_grows version total full more seen bytes =
     let p = total - length bytes in
     let q = full - length (bytes ++ more) in
-    binds (grown more) _ _ _ _ _ (name_grows p q (is_new_name seen) bytes more) (λ name.
+    binds (grown more) _ _ _ _ _ (name_grows version p q (is_new_name seen) bytes more) (λ name.
     binds (grown more) _ _ _ _ _ (declared_grows version p q name.1 more) (λ code.
     binds id_at _ _ _ _ _ (lawful_grows p q (type_in version code.0.1)) (λ type.
     binds (grown more) _ _ _ _ _ (number_grows w16 code.1 more) (λ place.
@@ -171,14 +171,14 @@ unfolding instance_at
 instance_grows version total full vs more seen bytes =
     let p = total - length bytes in
     let q = full - length (bytes ++ more) in
-    binds (grown more) _ _ _ _ _ (name_grows p q (is_new_instance vs seen) bytes more) (λ name.
+    binds (grown more) _ _ _ _ _ (name_grows version p q (is_new_instance vs seen) bytes more) (λ name.
     binds (grown more) _ _ _ _ _ (declared_grows version p q name.1 more) (λ code.
     binds id_at _ _ _ _ _ (lawful_grows p q (kind_of_code code.0.1)) (λ kind. refl)))
 
-mark_grows : (total full : ℕ) (more : List ℕ) (seen : List Mark) (bytes : List ℕ) → Grows (grown more) (mark_at total seen bytes) (mark_at full seen (bytes ++ more))
+mark_grows : (version : Version) (total full : ℕ) (more : List ℕ) (seen : List Mark) (bytes : List ℕ) → Grows (grown more) (mark_at version total seen bytes) (mark_at version full seen (bytes ++ more))
 unfolding mark_at
-mark_grows total full more seen bytes =
-    binds (grown more) _ _ _ _ _ (name_grows (total - length bytes) (full - length (bytes ++ more)) (is_new_label seen) bytes more) (λ name.
+mark_grows version total full more seen bytes =
+    binds (grown more) _ _ _ _ _ (name_grows version (total - length bytes) (full - length (bytes ++ more)) (is_new_label seen) bytes more) (λ name.
     binds (grown more) _ _ _ _ _ (number_grows w16 name.1 more) (λ address. refl))
 
 constant_grows : (version : Version) (total full : ℕ) (more : List ℕ) (seen : List Value) (bytes : List ℕ) → Grows (grown more) (constant_at version total seen bytes) (constant_at version full seen (bytes ++ more))
@@ -246,7 +246,7 @@ unfolding bodies_at
 bodies_end version total full c bytes more some =
     binds (grown more) _ _ _ _ _ (items_grow (variable_at version total) (variable_at version full) more (variable_grows version total full more) c.variables [] bytes) (λ vs.
     binds (grown more) _ _ _ _ _ (items_grow (instance_at version total vs.0) (instance_at version full vs.0) more (instance_grows version total full vs.0 more) c.instances [] vs.1) (λ xs.
-    binds (grown more) _ _ _ _ _ (items_grow (mark_at total) (mark_at full) more (mark_grows total full more) c.labels [] xs.1) (λ ms.
+    binds (grown more) _ _ _ _ _ (items_grow (mark_at version total) (mark_at version full) more (mark_grows version total full more) c.labels [] xs.1) (λ ms.
     binds (grown more) _ _ _ _ _ (items_grow (constant_at version total) (constant_at version full) more (constant_grows version total full more) c.constants [] ms.1) (λ cs.
     let ds : Declarations = record { variables = vs.0; instances = xs.0 } in
     binds (grown more) _ _ _ _ _ (items_grow (next_word version total ds ms.0 cs.0) (next_word version full ds ms.0 cs.0) more (λ seen bytes. word_grows version (total - length bytes) (full - length (bytes ++ more)) ds ms.0 cs.0 (length seen) bytes more) c.words [] cs.1) (λ ws.

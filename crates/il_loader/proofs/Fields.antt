@@ -1,9 +1,9 @@
 -- What is read is spelled so, and what is spelled so is read: fields and records.
-use Rattle.std.proofs.Common.{◌≡◌, ℕ, zero, suc, ◌+◌, ◌^◌, ◌<◌, ◌≤◌, Bool, true, false, cond, ltb, List, [], ◌∷◌, ◌++◌, length, get_or, take, drop, Option, Some, None, Result, Ok, Err, refl, sym, ap, subst, ◌∙◌, append_assoc, arith, inl, inr}
+use Rattle.std.proofs.Common.{◌≡◌, ℕ, zero, suc, ◌+◌, ◌^◌, ◌<◌, ◌≤◌, Bool, true, false, cond, ltb, List, [], ◌∷◌, ◌++◌, length, get_or, take, drop, Option, Some, None, Result, Ok, Err, refl, sym, ap, subst, ◌∙◌, append_assoc, arith, inl, inr, leb}
 use Rattle.std.specs.Prelude.{ℤ, ◌&&◌, not}
 use Rattle.std.specs.Option.{option_and_then}
 use Rattle.std.specs.Int.{Width, w8, w16, w32, w64, byte_len, from_be_bytes, to_be_bytes, cast_signed, cast_unsigned}
-use Rattle.std.proofs.lemmas.Bool.{cases_lt, ltb-false, le-ltb, ltb-true}
+use Rattle.std.proofs.lemmas.Bool.{cases_lt, ltb-false, le-ltb, leb-true}
 use Rattle.std.proofs.lemmas.Int.{of_z-to_z}
 use Rattle.std.proofs.lemmas.List.{take_at, drop_at, take-append-drop, length-append, length-take, get_or-drop, get_or-take, get_or_past}
 use Rattle.std.proofs.lemmas.Nat.{be_bytes_2, be_bytes_4, be_bytes_8, from_be_bytes-to_be_bytes_2, from_be_bytes-to_be_bytes_4, from_be_bytes-to_be_bytes_8}
@@ -24,7 +24,7 @@ use Rattle.il_model.proofs.SettledPrograms.{made_number}
 use Rattle.il_model.proofs.Versions.{number_limit, IsKept, initial_made, made_type}
 use Rattle.il_loader.specs.declared.fault.LoadFault.{LoadFault}
 use Rattle.il_loader.specs.declared.fault.LoadFault.TheVariants.{Truncated}
-use Rattle.il_model.specs.Codes.{if_passes, length_of, type_of, is_free, free_loc, coded_location, initial_of, is_known, constant_of}
+use Rattle.il_model.specs.Codes.{if_passes, longest_name, length_in, type_of, is_free, free_loc, coded_location, initial_of, is_known, constant_of}
 use Rattle.il_loader.specs.Reading.{◌>>=◌, number_at, signed_at, lawful, agrees}
 
 abbrev pub IsBytes : List ℕ → Type 0
@@ -146,16 +146,17 @@ signed_again version z rest kept = let w = number_width version in rw (number_ag
 
 -- ---- names
 
-pub length_is : (n m : ℕ) → length_of n ≡ Some m → n ≡ m
-length_is n m e = (some_yes (ltb 0 n && ltb n 33) n m e).1
+pub length_is : (version : Version) (n m : ℕ) → length_in version n ≡ Some m → n ≡ m
+length_is version n m e = (some_yes (ltb 0 n && leb n (longest_name version)) n m e).1
 
-pub lt_of : (a b : Bool) (n : ℕ) → ltb n 33 ≡ b → (a && b) ≡ true → n < 33
-lt_of true true n e h = ltb-true n 33 e
-lt_of true false n e h = absurd cc
-lt_of false b n e h = absurd cc
+le_of : (a b : Bool) (n most : ℕ) → leb n most ≡ b → (a && b) ≡ true → n ≤ most
+le_of true true n most e h = leb-true n most e
+le_of true false n most e h = absurd cc
+le_of false b n most e h = absurd cc
 
-pub length_below : (n m : ℕ) → length_of n ≡ Some m → n < 33
-length_below n m e = lt_of (ltb 0 n) (ltb n 33) n refl (some_yes (ltb 0 n && ltb n 33) n m e).0
+-- the greatest length there is
+pub length_below : (n m : ℕ) → length_in versions.Three n ≡ Some m → n < 97
+length_below n m e = let le = le_of (ltb 0 n) (leb n 96) n 96 refl (some_yes (ltb 0 n && leb n 96) n m e).0 in omega (arith, le)
 
 -- ---- tables
 
@@ -166,7 +167,9 @@ type_is (suc (suc zero)) t e = let is : types.Dint ≡ t = cc in sym (ap type_co
 type_is (suc (suc (suc zero))) t e = let is : types.Time ≡ t = cc in sym (ap type_code is)
 type_is (suc (suc (suc (suc zero)))) t e = let is : types.Lint ≡ t = cc in sym (ap type_code is)
 type_is (suc (suc (suc (suc (suc zero))))) t e = let is : types.Real ≡ t = cc in sym (ap type_code is)
-type_is (suc (suc (suc (suc (suc (suc n)))))) t e = absurd cc
+type_is (suc (suc (suc (suc (suc (suc zero)))))) t e = let is : types.Word ≡ t = cc in sym (ap type_code is)
+type_is (suc (suc (suc (suc (suc (suc (suc zero))))))) t e = let is : types.Dword ≡ t = cc in sym (ap type_code is)
+type_is (suc (suc (suc (suc (suc (suc (suc (suc n)))))))) t e = absurd cc
 
 pub type_small : (t : Ty) → type_code t < 2 ^ 8
 type_small types.Bool = omega arith
@@ -175,6 +178,8 @@ type_small types.Dint = omega arith
 type_small types.Time = omega arith
 type_small types.Lint = omega arith
 type_small types.Real = omega arith
+type_small types.Word = omega arith
+type_small types.Dword = omega arith
 
 free_is : (seen : List Variable) (t : Ty) (x : CodedOperand) (loc : Option Loc) → free_loc seen t x ≡ Some loc → location_code loc ≡ code_of x
 free_is seen t (coded.Location l) loc e = let y = some_yes (is_free seen t l) (Some l) loc e in sym (ap location_code y.1)

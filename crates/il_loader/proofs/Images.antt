@@ -1,4 +1,5 @@
 -- The two laws: what is read is the spelling of a typed program, and that spelling is read.
+use Rattle.il_model.proofs.RowTypes.{and_yes}
 use Rattle.std.proofs.Common.{◌≡◌, ℕ, ◌+◌, ◌≤◌, Bool, true, false, cond, ltb, List, [], ◌∷◌, length, Option, Some, None, Result, Ok, Err, refl, sym, ap, subst, ◌∙◌, arith}
 use Rattle.std.specs.Prelude.{nat_eq, nat_le, ◌||◌, ◌&&◌, ◌++◌, IfOk}
 use Rattle.std.specs.List.{flat_map, list_all, position, AllByRecursion}
@@ -13,9 +14,9 @@ use Rattle.il_model.specs.declared.typing.TypeFault.{TypeFault}
 use Rattle.il_model.specs.Program.{Program, program_of}
 use Rattle.il_model.specs.Typing.{IsTyped}
 use Rattle.il_model.specs.Checking.{judgement_of}
-use Rattle.il_model.specs.Marks.{Mark, marks_from, words_in, AreRising, AreStarts}
+use Rattle.il_model.specs.Marks.{Mark, with_mark, marks_from, word_count, words_in, AreRising, AreStarts}
 use Rattle.il_model.specs.Constants.{same_value, operands_in, operands_of, constants_from, constants_of}
-use Rattle.il_model.specs.Image.{version_number, op_version, may_have, may_name, may_write, version_with, version_of, instruction_bytes, spelling}
+use Rattle.il_model.specs.Image.{version_number, op_version, may_have, may_call, may_label, may_name, may_write, version_with, version_of, instruction_bytes, spelling}
 use Rattle.il_model.specs.Fits.{IsMark, IsConstant, AreItems, IsProgram, IsImage}
 use Rattle.il_model.proofs.Marks.{table_again, table_rises, table_starts, table_labels}
 use Rattle.il_model.proofs.ConstantLists.{are_apart}
@@ -269,25 +270,47 @@ words_split version (w ∷ ws) =
     ∙ ap (λ b. (may_do_word version w.content && may_name version (operand_in w.content)) && b) (words_split version ws)
     ∙ reordered (may_do_word version w.content) (may_name version (operand_in w.content)) (list_all (λ (w : Word). may_do_word version w.content) ws) (list_all (may_name version) (word_operands ws))
 
-lines_split : (version : Version) (code : List Instr) → list_all (may_write version) code ≡ (list_all (may_do version) code && list_all (may_name version) (operands_of code))
+-- what a version may have of an instruction but its label, which stands apart in an image
+abbrev may_follow : Version → Instr → Bool
+may_follow version line = may_do version line && list_all (may_name version) (operands_in line)
+
+lines_split : (version : Version) (code : List Instr) → list_all (may_follow version) code ≡ (list_all (may_do version) code && list_all (may_name version) (operands_of code))
 lines_split version code =
     all_of_both (may_do version) (λ line. list_all (may_name version) (operands_in line)) code
     ∙ ap (λ b. list_all (may_do version) code && b) (all_of_lists (may_name version) operands_in code)
 
 -- the words are those that a version may have where the instructions are
-may_words : (version : Version) (xs : List Instance) (ws : List Word) → stray_from false ws ≡ None → list_all (may_read version) ws ≡ list_all (may_write version) (lines_of xs ws)
+may_words : (version : Version) (xs : List Instance) (ws : List Word) → stray_from false ws ≡ None → list_all (may_read version) ws ≡ list_all (may_follow version) (lines_of xs ws)
 may_words version xs ws stray =
     words_split version ws
     ∙ ap (λ b. b && list_all (may_name version) (word_operands ws)) (do_words version xs ws)
     ∙ ap (λ (os : List Operand). list_all (may_do version) (lines_of xs ws) && list_all (may_name version) os) (sym (operands_are xs ws stray))
     ∙ sym (lines_split version (lines_of xs ws))
 
+-- the labels and the rest of the instructions
+label_may : (version : Version) (n : ℕ) (o : Option (List ℕ)) (ms : List Mark) → may_label version o ≡ true → list_all (λ (m : Mark). may_call version m.name) ms ≡ true → list_all (λ (m : Mark). may_call version m.name) (with_mark n o ms) ≡ true
+label_may version n None ms may all = all
+label_may version n (Some name) ms may all = rw (may, all) refl
+
+labels_may : (version : Version) (n : ℕ) (code : List Instr) → list_all (may_write version) code ≡ true → list_all (λ (m : Mark). may_call version m.name) (marks_from n code) ≡ true
+labels_may version n [] all = refl
+labels_may version n (line ∷ code) all =
+    let here = and_yes (may_write version line) (list_all (may_write version) code) all in
+    label_may version n line.label (marks_from (n + word_count line) code) (and_yes (may_label version line.label) _ here.0).0 (labels_may version (n + word_count line) code here.1)
+
+follows : (version : Version) (code : List Instr) → list_all (may_write version) code ≡ true → list_all (may_follow version) code ≡ true
+follows version [] all = refl
+follows version (line ∷ code) all =
+    let here = and_yes (may_write version line) (list_all (may_write version) code) all in
+    rw ((and_yes (may_label version line.label) _ here.0).1, follows version code here.1) refl
+
 tables_short : (Q : Program) → IsImage Q → AreShort (tables_of Q)
 tables_short Q is =
     let cs = constants_of Q in
     let may = version_may Q.variables Q.instances cs Q.code in
-    let same : list_all (may_read (version_of Q)) (all_words Q) ≡ list_all (may_write (version_of Q)) Q.code = may_words (version_of Q) Q.instances (all_words Q) (none_stray Q cs [] Q.code false is.text.words) ∙ ap (list_all (may_write (version_of Q))) (lines_again Q cs [] Q.code is.text.words) in
-    record { variables = may.0; instances = may.1; constants = may.2; words = same ∙ may.3 }
+    let version = version_of Q in
+    let same : list_all (may_read version) (all_words Q) ≡ list_all (may_follow version) Q.code = may_words version Q.instances (all_words Q) (none_stray Q cs [] Q.code false is.text.words) ∙ ap (list_all (may_follow version)) (lines_again Q cs [] Q.code is.text.words) in
+    record { variables = may.0; instances = may.1; labels = labels_may version 0 Q.code may.3; constants = may.2; words = same ∙ follows version Q.code may.3 }
 
 tables_judged : (total : ℕ) (Q : Program) → IsImage Q → judged_tables total (tables_of Q) ≡ Ok Q
 unfolding judged_tables is_own_version

@@ -11,6 +11,7 @@ pub mod Passing
 pub mod WordsRead
 pub mod WordsOf
 pub mod Images
+pub mod ImageVersions
 pub mod WellFormed
 pub mod WorkedImages
 pub mod Beginnings

@@ -1,6 +1,9 @@
 -- What is read is spelled so, and what is spelled so is read: records and tables.
-use Rattle.std.proofs.Common.{◌≡◌, ℕ, zero, suc, ◌-◌, ◌^◌, ◌<◌, ◌≤◌, Bool, true, false, cond, ltb, eqb, List, [], ◌∷◌, ◌++◌, length, take, drop, Option, Some, None, Result, Ok, Err, refl, sym, ap, subst, ◌∙◌, append_assoc, arith}
-use Rattle.std.specs.Prelude.{ℤ, nat_eq, find, ◌&&◌}
+use Rattle.il_model.specs.Resolved.{instance_in}
+use Rattle.il_model.specs.Words.{is_lawful_name}
+use Rattle.il_model.specs.declared.codes.Version.TheVariants as versions
+use Rattle.std.proofs.Common.{◌≡◌, ℕ, zero, suc, ◌-◌, ◌^◌, ◌<◌, ◌≤◌, Bool, true, false, cond, ltb, eqb, List, [], ◌∷◌, ◌++◌, length, take, drop, Option, Some, None, Result, Ok, Err, refl, sym, ap, subst, ◌∙◌, append_assoc, arith, not}
+use Rattle.std.specs.Prelude.{ℤ, nat_eq, find, ◌&&◌, is_some}
 use Rattle.std.specs.List.{flat_map}
 use Rattle.std.specs.Int.{w8, w16, to_be_bytes}
 use Rattle.std.proofs.lemmas.Bool.{ltb-false, ltb-true, lt-ltb, le-ltb, eqb-true}
@@ -12,6 +15,7 @@ use Rattle.il_model.specs.declared.value.Value.{Value}
 use Rattle.il_model.specs.declared.op.Op.{Op}
 use Rattle.il_model.specs.declared.op.Op.TheVariants as ops
 use Rattle.il_model.specs.declared.function.Function.TheVariants as functions
+use Rattle.il_model.specs.declared.shift.Shift.TheVariants as shifts
 use Rattle.il_model.specs.declared.op.Modifier.{Modifier}
 use Rattle.il_model.specs.declared.codes.Version.{Version}
 use Rattle.il_model.specs.declared.kind.BlockKind.{BlockKind}
@@ -27,12 +31,13 @@ use Rattle.il_model.specs.Values.{ty_of, number_of}
 use Rattle.il_model.specs.Kinds.{block_kinds, kind_code, kind_of_code}
 use Rattle.il_model.specs.Program.{Declarations}
 use Rattle.il_model.specs.Marks.{Mark}
-use Rattle.il_model.specs.Image.{type_code, location_code, name_bytes, type_version, value_version, op_version, may_have, may_lie, may_retain, may_declare, may_instantiate, declared_code, may_keep, may_name, number_bytes, variable_bytes, instance_bytes, mark_bytes, constant_bytes, op_code, modifier_code, side_code, coded_word}
-use Rattle.il_model.specs.Codes.{is_new_name, is_new_instance, is_new_label, length_of, type_of, type_in, retained_in, plain_code, coded_location, coded_location_in, initial_of, constant_of, usage_of, allowed_by, op_of, op_in, modifier_of, letters_of, label_there, word_operand, word_operand_in, side_of, argument_number, argument_operand, argument_operand_in}
+use Rattle.il_model.specs.Image.{type_code, location_code, name_bytes, type_version, value_version, op_version, may_have, may_lie, may_retain, may_call, may_declare, may_instantiate, declared_code, may_keep, may_name, number_bytes, variable_bytes, instance_bytes, mark_bytes, constant_bytes, op_code, modifier_code, side_code, coded_word}
+use Rattle.il_model.specs.Codes.{is_new_name, is_new_instance, is_new_label, length_in, type_of, type_in, retained_in, plain_code, coded_location, coded_location_in, initial_of, constant_of, usage_of, allowed_by, op_of, op_in, modifier_of, letters_of, label_there, word_operand, word_operand_in, side_of, argument_number, argument_operand, argument_operand_in}
 use Rattle.il_model.specs.Fits.{IsVariable, IsInstance, IsMark, IsConstant, IsCoded, AreItems}
 use Rattle.il_model.proofs.BlockKinds.{kind_of_code-kind_code}
 use Rattle.il_model.proofs.OpCodes.{op_is}
 use Rattle.il_model.proofs.RowTypes.{and_yes}
+use Rattle.il_model.proofs.NameLengths.{length_kept, length_wide}
 use Rattle.il_model.proofs.Retained.{plain_again, declared_small, retained_again, code_is}
 use Rattle.il_model.proofs.Versions.{IsKept, variable_kept, constant_kept, type_in_again, type_in_is, op_in_again, op_in_is, place_in_again, place_in_is, operand_in_again, operand_in_is, argument_in_again, argument_in_is}
 use Rattle.il_loader.specs.declared.word.Word.{Word}
@@ -44,50 +49,50 @@ use Rattle.il_loader.specs.Reading.{◌>>=◌, number_at, signed_at, lawful, agr
 use Rattle.il_loader.proofs.Fields.{IsBytes, IsBytes-drop, bind_ok, guard_no, agrees_ok, lawful_ok, some_yes, ok_is, Takes, Takes-then, wide8, wide16, number_takes, number_again, signed_takes, signed_again, length_is, length_below, type_is, type_small, location_is, initial_is, tested_some, constant_is}
 
 record IsName (is_new : List ℕ → Bool) (name : List ℕ) : Type 0 where
-  len : length_of (length name) ≡ Some (length name)
+  len : length_in versions.Three (length name) ≡ Some (length name)
   new : is_new name ≡ true
 
-length_read : (m b l : ℕ) → m ≡ l → b ≡ l → length_of m ≡ Some b → length_of l ≡ Some l
-length_read m b l m-is b-is e = ap length_of (sym m-is) ∙ e ∙ ap (λ (k : ℕ). Some k) b-is
+length_read : (version : Version) (m b l : ℕ) → m ≡ l → b ≡ l → length_in version m ≡ Some b → length_in version l ≡ Some l
+length_read version m b l m-is b-is e = ap (length_in version) (sym m-is) ∙ e ∙ ap (λ (k : ℕ). Some k) b-is
 
-spelled_takes : (p : ℕ) (bytes : List ℕ) (x : List ℕ × List ℕ) → IsBytes bytes → spelled_name_at p bytes ≡ Ok x → Takes bytes (name_bytes x.0) x.1 × (length_of (length x.0) ≡ Some (length x.0))
+spelled_takes : (version : Version) (p : ℕ) (bytes : List ℕ) (x : List ℕ × List ℕ) → IsBytes bytes → spelled_name_at version p bytes ≡ Ok x → Takes bytes (name_bytes x.0) x.1 × (length_in version (length x.0) ≡ Some (length x.0))
 unfolding spelled_name_at
-spelled_takes p bytes x fits e =
-    let b_first = bind_ok (number_at w8 bytes) (λ first. lawful p (length_of first.0) >>= λ n. cond (ltb (length first.1) n) (Err Truncated) (Ok (take n first.1, drop n first.1))) x e in
-    let b_n = bind_ok (lawful p (length_of b_first.0.0)) (λ n. cond (ltb (length b_first.0.1) n) (Err Truncated) (Ok (take n b_first.0.1, drop n b_first.0.1))) x b_first.2 in
+spelled_takes version p bytes x fits e =
+    let b_first = bind_ok (number_at w8 bytes) (λ first. lawful p (length_in version first.0) >>= λ n. cond (ltb (length first.1) n) (Err Truncated) (Ok (take n first.1, drop n first.1))) x e in
+    let b_n = bind_ok (lawful p (length_in version b_first.0.0)) (λ n. cond (ltb (length b_first.0.1) n) (Err Truncated) (Ok (take n b_first.0.1, drop n b_first.0.1))) x b_first.2 in
     let m = b_first.0.0 in
     let after = b_first.0.1 in
-    let n-is : m ≡ b_n.0 = length_is m b_n.0 (lawful_ok p (length_of m) b_n.0 b_n.1) in
+    let n-is : m ≡ b_n.0 = length_is version m b_n.0 (lawful_ok p (length_in version m) b_n.0 b_n.1) in
     let g = guard_no (ltb (length after) b_n.0) Truncated (Ok (take b_n.0 after, drop b_n.0 after)) x b_n.2 in
     let long : b_n.0 ≤ length after = ltb-false _ _ g.0 in
     let t = number_takes w8 (2 ^ 8) wide8 bytes m after fits b_first.1 in
     let len : m ≡ length (take b_n.0 after) = omega (arith, length-take b_n.0 after) in
-    let read : length_of (length (take b_n.0 after)) ≡ Some (length (take b_n.0 after)) = length_read m b_n.0 (length (take b_n.0 after)) len (omega (arith, length-take b_n.0 after)) (lawful_ok p (length_of m) b_n.0 b_n.1) in
+    let read : length_in version (length (take b_n.0 after)) ≡ Some (length (take b_n.0 after)) = length_read version m b_n.0 (length (take b_n.0 after)) len (omega (arith, length-take b_n.0 after)) (lawful_ok p (length_in version m) b_n.0 b_n.1) in
     let second : Takes after (take b_n.0 after) (drop b_n.0 after) = record { parts = sym (take-append-drop b_n.0 after); rest_fits = IsBytes-drop b_n.0 after t.0.rest_fits } in
     let both = Takes-then bytes (to_be_bytes w8 m) after (take b_n.0 after) (drop b_n.0 after) t.0 second in
     let whole : Takes bytes (name_bytes (take b_n.0 after)) (drop b_n.0 after) = subst (λ (k : ℕ). Takes bytes (to_be_bytes w8 k ++ take b_n.0 after) (drop b_n.0 after)) len both in
-    subst (λ (y : List ℕ × List ℕ). Takes bytes (name_bytes y.0) y.1 × (length_of (length y.0) ≡ Some (length y.0))) (ok_is (take b_n.0 after, drop b_n.0 after) x g.1) (whole, read)
+    subst (λ (y : List ℕ × List ℕ). Takes bytes (name_bytes y.0) y.1 × (length_in version (length y.0) ≡ Some (length y.0))) (ok_is (take b_n.0 after, drop b_n.0 after) x g.1) (whole, read)
 
-name_takes : (p : ℕ) (is_new : List ℕ → Bool) (bytes : List ℕ) (x : List ℕ × List ℕ) → IsBytes bytes → name_at p is_new bytes ≡ Ok x → Takes bytes (name_bytes x.0) x.1 × IsName is_new x.0
+name_takes : (version : Version) (p : ℕ) (is_new : List ℕ → Bool) (bytes : List ℕ) (x : List ℕ × List ℕ) → IsBytes bytes → name_at version p is_new bytes ≡ Ok x → Takes bytes (name_bytes x.0) x.1 × IsName is_new x.0
 unfolding name_at
-name_takes p is_new bytes x fits e =
-    let b_name = bind_ok (spelled_name_at p bytes) (λ name. agrees (BadWord p) (is_new name.0) >>= λ new. Ok name) x e in
-    let b_new = bind_ok (agrees (BadWord p) (is_new b_name.0.0)) (λ new. Ok b_name.0) x b_name.2 in
-    let t = spelled_takes p bytes b_name.0 fits b_name.1 in
-    let new = agrees_ok (BadWord p) (is_new b_name.0.0) b_new.0 b_new.1 in
-    subst (λ (y : List ℕ × List ℕ). Takes bytes (name_bytes y.0) y.1 × IsName is_new y.0) (ok_is b_name.0 x b_new.2) (t.0, record { len = t.1; new = new })
+name_takes version p is_new bytes x fits e =
+    let b_name = bind_ok (spelled_name_at version p bytes) (λ name. agrees (BadWord p) (may_call version name.0 && is_new name.0) >>= λ new. Ok name) x e in
+    let b_new = bind_ok (agrees (BadWord p) (may_call version b_name.0.0 && is_new b_name.0.0)) (λ new. Ok b_name.0) x b_name.2 in
+    let t = spelled_takes version p bytes b_name.0 fits b_name.1 in
+    let new = (and_yes (may_call version b_name.0.0) (is_new b_name.0.0) (agrees_ok (BadWord p) (may_call version b_name.0.0 && is_new b_name.0.0) b_new.0 b_new.1)).1 in
+    subst (λ (y : List ℕ × List ℕ). Takes bytes (name_bytes y.0) y.1 × IsName is_new y.0) (ok_is b_name.0 x b_new.2) (t.0, record { len = length_wide version (length b_name.0.0) t.1; new = new })
 
-spelled_again : (p : ℕ) (name rest : List ℕ) → length_of (length name) ≡ Some (length name) → spelled_name_at p (name_bytes name ++ rest) ≡ Ok (name, rest)
+spelled_again : (version : Version) (p : ℕ) (name rest : List ℕ) → length_in version (length name) ≡ Some (length name) → spelled_name_at version p (name_bytes name ++ rest) ≡ Ok (name, rest)
 unfolding spelled_name_at
-spelled_again p name rest len =
+spelled_again version p name rest len =
     let regrouped : name_bytes name ++ rest ≡ to_be_bytes w8 (length name) ++ (name ++ rest) = append_assoc (to_be_bytes w8 (length name)) name rest in
-    let small : length name < 2 ^ 8 = omega (arith, length_below (length name) (length name) len) in
+    let small : length name < 2 ^ 8 = omega (arith, length_below (length name) (length name) (length_wide version (length name) len)) in
     let long : ltb (length (name ++ rest)) (length name) ≡ false = le-ltb _ _ (omega (arith, length-append name rest)) in
-    ap (spelled_name_at p) regrouped ∙ rw (number_again w8 (2 ^ 8) wide8 (length name) (name ++ rest) small, len, long, take_at name rest (length name) refl, drop_at name rest (length name) refl) refl
+    ap (spelled_name_at version p) regrouped ∙ rw (number_again w8 (2 ^ 8) wide8 (length name) (name ++ rest) small, len, long, take_at name rest (length name) refl, drop_at name rest (length name) refl) refl
 
-name_again : (p : ℕ) (is_new : List ℕ → Bool) (name rest : List ℕ) → length_of (length name) ≡ Some (length name) → is_new name ≡ true → name_at p is_new (name_bytes name ++ rest) ≡ Ok (name, rest)
+name_again : (version : Version) (p : ℕ) (is_new : List ℕ → Bool) (name rest : List ℕ) → length_in version (length name) ≡ Some (length name) → may_call version name ≡ true → is_new name ≡ true → name_at version p is_new (name_bytes name ++ rest) ≡ Ok (name, rest)
 unfolding name_at
-name_again p is_new name rest len new = rw (spelled_again p name rest len, new) refl
+name_again version p is_new name rest len may new = rw (spelled_again version p name rest len, may, new) refl
 
 first_value_takes : (version : Version) (p : ℕ) (type : Ty) (loc : Option Loc) (bytes : List ℕ) (x : Value × List ℕ) → IsBytes bytes → first_value_at version p type loc bytes ≡ Ok x
     → Takes bytes (number_bytes version (number_of x.0)) x.1 × (initial_of type loc (number_of x.0) ≡ Some x.0)
@@ -171,10 +176,10 @@ pub variable_takes : (version : Version) (total : ℕ) (seen : List Variable) (b
 unfolding variable_at
 variable_takes version total seen bytes x fits e =
     let p = total - length bytes in
-    let b_name = bind_ok (name_at p (is_new_name seen) bytes) (λ name. declared_at version p name.1 >>= λ code. lawful p (type_in version code.0.1) >>= λ type. number_at w16 code.1 >>= λ place. lawful p (coded_location_in version seen type place.0) >>= λ loc. first_value_at version p type loc place.1 >>= λ first. Ok (record { name = name.0; ty = type; location = loc; initial = first.0; retained = code.0.0 }, first.1)) x e in
+    let b_name = bind_ok (name_at version p (is_new_name seen) bytes) (λ name. declared_at version p name.1 >>= λ code. lawful p (type_in version code.0.1) >>= λ type. number_at w16 code.1 >>= λ place. lawful p (coded_location_in version seen type place.0) >>= λ loc. first_value_at version p type loc place.1 >>= λ first. Ok (record { name = name.0; ty = type; location = loc; initial = first.0; retained = code.0.0 }, first.1)) x e in
     let b_code = bind_ok (declared_at version p b_name.0.1) (λ code. lawful p (type_in version code.0.1) >>= λ type. number_at w16 code.1 >>= λ place. lawful p (coded_location_in version seen type place.0) >>= λ loc. first_value_at version p type loc place.1 >>= λ first. Ok (record { name = b_name.0.0; ty = type; location = loc; initial = first.0; retained = code.0.0 }, first.1)) x b_name.2 in
     let b_type = bind_ok (lawful p (type_in version b_code.0.0.1)) (λ type. number_at w16 b_code.0.1 >>= λ place. lawful p (coded_location_in version seen type place.0) >>= λ loc. first_value_at version p type loc place.1 >>= λ first. Ok (record { name = b_name.0.0; ty = type; location = loc; initial = first.0; retained = b_code.0.0.0 }, first.1)) x b_code.2 in
-    let t0 = name_takes p (is_new_name seen) bytes b_name.0 fits b_name.1 in
+    let t0 = name_takes version p (is_new_name seen) bytes b_name.0 fits b_name.1 in
     let t1 = declared_takes version p b_name.0.1 b_code.0 t0.0.rest_fits b_code.1 in
     let ty-in = lawful_ok p (type_in version b_code.0.0.1) b_type.0 b_type.1 in
     variable_tail version p seen bytes b_name.0.1 b_code.0.1 b_name.0.0 b_code.0.0.0 b_code.0.0.1 b_type.0 x t0.0 t0.1 t1 ty-in b_type.2
@@ -193,6 +198,8 @@ type_below types.Dint = omega arith
 type_below types.Time = omega arith
 type_below types.Lint = omega arith
 type_below types.Real = omega arith
+type_below types.Word = omega arith
+type_below types.Dword = omega arith
 
 pub variable_again : (version : Version) (total : ℕ) (seen : List Variable) (v : Variable) (rest : List ℕ) → IsVariable seen v → may_declare version v ≡ true → variable_at version total seen (variable_bytes version v ++ rest) ≡ Ok (v, rest)
 unfolding variable_at
@@ -201,12 +208,14 @@ variable_again version total seen v rest is may =
     let b1 = to_be_bytes w8 (declared_code v.retained (type_code v.ty)) in
     let b2 = to_be_bytes w16 (location_code v.location) in
     let b3 = number_bytes version (number_of v.initial) in
-    let first = and_yes (may_have version (type_version v.ty)) _ may in
+    let named = and_yes (may_call version v.name) _ may in
+    let first = and_yes (may_have version (type_version v.ty)) _ named.1 in
+    let len = length_kept version v.name is.length (and_yes (is_lawful_name v.name) _ is.name).0 named.0 in
     let rest-may = and_yes (may_have version (value_version v.initial)) _ first.1 in
     let place-may = and_yes (may_lie version v.location) (may_retain version v.retained) rest-may.1 in
     let type = type_in_again version v.ty first.0 in
     let place = place_in_again version seen v.ty (location_code v.location) v.location is.location place-may.0 in
-    let h0 : name_at p (is_new_name seen) (variable_bytes version v ++ rest) ≡ Ok (v.name, b1 ++ (b2 ++ (b3 ++ rest))) = ap (name_at p (is_new_name seen)) (regrouped_4 (name_bytes v.name) b1 b2 b3 rest) ∙ name_again p (is_new_name seen) v.name (b1 ++ (b2 ++ (b3 ++ rest))) is.length is.name in
+    let h0 : name_at version p (is_new_name seen) (variable_bytes version v ++ rest) ≡ Ok (v.name, b1 ++ (b2 ++ (b3 ++ rest))) = ap (name_at version p (is_new_name seen)) (regrouped_4 (name_bytes v.name) b1 b2 b3 rest) ∙ name_again version p (is_new_name seen) v.name (b1 ++ (b2 ++ (b3 ++ rest))) len named.0 is.name in
     rw (h0, declared_again version p v.retained (type_code v.ty) (b2 ++ (b3 ++ rest)) (type_below v.ty) place-may.1, type, number_again w16 (2 ^ 16) wide16 (location_code v.location) (b3 ++ rest) is.location_small, place, first_value_again version p v.ty v.location v.initial rest is.initial (variable_kept version seen v is may)) refl
 
 -- ---- instances
@@ -246,10 +255,10 @@ pub instance_takes : (version : Version) (total : ℕ) (vs : List Variable) (see
 unfolding instance_at
 instance_takes version total vs seen bytes x fits e =
     let p = total - length bytes in
-    let b_name = bind_ok (name_at p (is_new_instance vs seen) bytes) (λ name. declared_at version p name.1 >>= λ code. lawful p (kind_of_code code.0.1) >>= λ kind. Ok (record { name = name.0; kind = kind; retained = code.0.0 }, code.1)) x e in
+    let b_name = bind_ok (name_at version p (is_new_instance vs seen) bytes) (λ name. declared_at version p name.1 >>= λ code. lawful p (kind_of_code code.0.1) >>= λ kind. Ok (record { name = name.0; kind = kind; retained = code.0.0 }, code.1)) x e in
     let b_code = bind_ok (declared_at version p b_name.0.1) (λ code. lawful p (kind_of_code code.0.1) >>= λ kind. Ok (record { name = b_name.0.0; kind = kind; retained = code.0.0 }, code.1)) x b_name.2 in
     let b_kind = bind_ok (lawful p (kind_of_code b_code.0.0.1)) (λ kind. Ok (record { name = b_name.0.0; kind = kind; retained = b_code.0.0.0 }, b_code.0.1)) x b_code.2 in
-    let t0 = name_takes p (is_new_instance vs seen) bytes b_name.0 fits b_name.1 in
+    let t0 = name_takes version p (is_new_instance vs seen) bytes b_name.0 fits b_name.1 in
     let t1 = declared_takes version p b_name.0.1 b_code.0 t0.0.rest_fits b_code.1 in
     let kind-ok = lawful_ok p (kind_of_code b_code.0.0.1) b_kind.0 b_kind.1 in
     let y : Instance = record { name = b_name.0.0; kind = b_kind.0; retained = b_code.0.0.0 } in
@@ -260,8 +269,12 @@ unfolding instance_at
 instance_again version total vs seen x rest is may =
     let p = total - length (instance_bytes x ++ rest) in
     let b1 = to_be_bytes w8 (declared_code x.retained (kind_code x.kind)) in
-    let h0 : name_at p (is_new_instance vs seen) (instance_bytes x ++ rest) ≡ Ok (x.name, b1 ++ rest) = ap (name_at p (is_new_instance vs seen)) (append_assoc (name_bytes x.name) b1 rest) ∙ name_again p (is_new_instance vs seen) x.name (b1 ++ rest) is.length is.name in
-    rw (h0, declared_again version p x.retained (kind_code x.kind) rest (kind_below x.kind) may, kind_of_code-kind_code x.kind) refl
+    let named = and_yes (may_call version x.name) (may_retain version x.retained) may in
+    let fresh = and_yes (is_new_name vs x.name && not (is_some (instance_in seen x.name))) _ is.name in
+    let new = and_yes (is_new_name vs x.name) _ fresh.0 in
+    let len = length_kept version x.name is.length (and_yes (is_lawful_name x.name) _ new.0).0 named.0 in
+    let h0 : name_at version p (is_new_instance vs seen) (instance_bytes x ++ rest) ≡ Ok (x.name, b1 ++ rest) = ap (name_at version p (is_new_instance vs seen)) (append_assoc (name_bytes x.name) b1 rest) ∙ name_again version p (is_new_instance vs seen) x.name (b1 ++ rest) len named.0 is.name in
+    rw (h0, declared_again version p x.retained (kind_code x.kind) rest (kind_below x.kind) named.1, kind_of_code-kind_code x.kind) refl
 
 -- ---- labels
 
@@ -269,23 +282,24 @@ mark_joins : (seen : List Mark) (bytes r0 rest : List ℕ) (m : Mark) → Takes 
     → Takes bytes (mark_bytes m) rest × IsMark seen m
 mark_joins seen bytes r0 rest m t0 t1 named lt = (Takes-then bytes (name_bytes m.name) r0 (to_be_bytes w16 m.at) rest t0 t1, record { length = named.len; name = named.new; small = lt })
 
-pub mark_takes : (total : ℕ) (seen : List Mark) (bytes : List ℕ) (x : Mark × List ℕ) → IsBytes bytes → mark_at total seen bytes ≡ Ok x → Takes bytes (mark_bytes x.0) x.1 × IsMark seen x.0
+pub mark_takes : (version : Version) (total : ℕ) (seen : List Mark) (bytes : List ℕ) (x : Mark × List ℕ) → IsBytes bytes → mark_at version total seen bytes ≡ Ok x → Takes bytes (mark_bytes x.0) x.1 × IsMark seen x.0
 unfolding mark_at
-mark_takes total seen bytes x fits e =
+mark_takes version total seen bytes x fits e =
     let p = total - length bytes in
-    let b_name = bind_ok (name_at p (is_new_label seen) bytes) (λ name. number_at w16 name.1 >>= λ address. Ok (record { name = name.0; at = address.0 }, address.1)) x e in
+    let b_name = bind_ok (name_at version p (is_new_label seen) bytes) (λ name. number_at w16 name.1 >>= λ address. Ok (record { name = name.0; at = address.0 }, address.1)) x e in
     let b_at = bind_ok (number_at w16 b_name.0.1) (λ address. Ok (record { name = b_name.0.0; at = address.0 }, address.1)) x b_name.2 in
-    let t0 = name_takes p (is_new_label seen) bytes b_name.0 fits b_name.1 in
+    let t0 = name_takes version p (is_new_label seen) bytes b_name.0 fits b_name.1 in
     let t1 = number_takes w16 (2 ^ 16) wide16 b_name.0.1 b_at.0.0 b_at.0.1 t0.0.rest_fits b_at.1 in
     let m : Mark = record { name = b_name.0.0; at = b_at.0.0 } in
     subst (λ (y : Mark × List ℕ). Takes bytes (mark_bytes y.0) y.1 × IsMark seen y.0) (ok_is (m, b_at.0.1) x b_at.2) (mark_joins seen bytes b_name.0.1 b_at.0.1 m t0.0 t1.0 t0.1 t1.1)
 
-pub mark_again : (total : ℕ) (seen : List Mark) (m : Mark) (rest : List ℕ) → IsMark seen m → mark_at total seen (mark_bytes m ++ rest) ≡ Ok (m, rest)
+pub mark_again : (version : Version) (total : ℕ) (seen : List Mark) (m : Mark) (rest : List ℕ) → IsMark seen m → may_call version m.name ≡ true → mark_at version total seen (mark_bytes m ++ rest) ≡ Ok (m, rest)
 unfolding mark_at
-mark_again total seen m rest is =
+mark_again version total seen m rest is may =
     let p = total - length (mark_bytes m ++ rest) in
     let b1 = to_be_bytes w16 m.at in
-    let h0 : name_at p (is_new_label seen) (mark_bytes m ++ rest) ≡ Ok (m.name, b1 ++ rest) = ap (name_at p (is_new_label seen)) (append_assoc (name_bytes m.name) b1 rest) ∙ name_again p (is_new_label seen) m.name (b1 ++ rest) is.length is.name in
+    let len = length_kept version m.name is.length (and_yes (is_lawful_name m.name) _ is.name).0 may in
+    let h0 : name_at version p (is_new_label seen) (mark_bytes m ++ rest) ≡ Ok (m.name, b1 ++ rest) = ap (name_at version p (is_new_label seen)) (append_assoc (name_bytes m.name) b1 rest) ∙ name_again version p (is_new_label seen) m.name (b1 ++ rest) len may is.name in
     rw (h0, number_again w16 (2 ^ 16) wide16 m.at rest is.small) refl
 
 -- ---- constants
@@ -387,6 +401,16 @@ no_side (ops.Apply functions.Sqrt) = refl
 no_side (ops.Apply functions.TimeToDint) = refl
 no_side (ops.Apply functions.DintToTime) = refl
 no_side (ops.Apply functions.Move) = refl
+no_side (ops.Apply functions.WordToInt) = refl
+no_side (ops.Apply functions.IntToWord) = refl
+no_side (ops.Apply functions.DwordToDint) = refl
+no_side (ops.Apply functions.DintToDword) = refl
+no_side (ops.Apply functions.WordToDword) = refl
+no_side (ops.Apply functions.DwordToWord) = refl
+no_side (ops.Shift shifts.Left) = refl
+no_side (ops.Shift shifts.Right) = refl
+no_side (ops.Shift shifts.RotateLeft) = refl
+no_side (ops.Shift shifts.RotateRight) = refl
 
 side_by : (a b : Bool) (n : ℕ) (side : Side) → eqb n 26 ≡ a → eqb n 27 ≡ b → cond a (Some sides.Input) (cond b (Some sides.Output) None) ≡ Some side → side_code side ≡ n
 side_by true b n side e f h = let is : sides.Input ≡ side = cc in sym (ap side_code is) ∙ sym (eqb-true n 26 e)

@@ -8,7 +8,8 @@ use Rattle.std.proofs.lemmas.List.{append-nil, nil_from_length}
 use Rattle.il_model.specs.declared.codes.Version.{Version}
 use Rattle.il_model.specs.declared.codes.Version.TheVariants as versions
 use Rattle.il_model.specs.Program.{Declarations}
-use Rattle.il_model.specs.Image.{magic, version_number, may_declare, may_instantiate, may_keep, variable_bytes, instance_bytes, mark_bytes, constant_bytes, counts_bytes, header_bytes}
+use Rattle.il_model.specs.Image.{magic, version_number, may_call, may_declare, may_instantiate, may_keep, variable_bytes, instance_bytes, mark_bytes, constant_bytes, counts_bytes, header_bytes}
+use Rattle.il_model.specs.Marks.{Mark}
 use Rattle.il_model.specs.Codes.{version_numbered}
 use Rattle.il_model.specs.Fits.{IsVariable, IsInstance, IsMark, IsConstant, AreItems}
 use Rattle.il_model.proofs.Versions.{items_may, version_again, version_is}
@@ -168,6 +169,7 @@ pub record AreTables (t : Tables) : Type 0 where
 pub record AreShort (t : Tables) : Type 0 where
   pub variables : list_all (may_declare t.version) t.variables ≡ true
   pub instances : list_all (may_instantiate t.version) t.instances ≡ true
+  pub labels : list_all (λ (m : Mark). may_call t.version m.name) t.labels ≡ true
   pub constants : list_all (may_keep t.version) t.constants ≡ true
   pub words : list_all (may_read t.version) t.words ≡ true
 
@@ -216,11 +218,11 @@ bodies_join c bytes r1 r2 r3 r4 rest t h0 h1 h2 h3 h4 end =
 bodies_take : (version : Version) (total : ℕ) (c : Counts) (bytes : List ℕ) (t : Tables) → IsBytes bytes → bodies_at version total c bytes ≡ Ok t → AreBodies version c bytes t
 unfolding bodies_at
 bodies_take version total c bytes t fits e =
-    let b_variables = bind_ok (items_from (variable_at version total) c.variables [] bytes) (λ variables. items_from (instance_at version total variables.0) c.instances [] variables.1 >>= λ instances. items_from (mark_at total) c.labels [] instances.1 >>= λ labels. items_from (constant_at version total) c.constants [] labels.1 >>= λ constants. items_from (next_word version total (record { variables = variables.0; instances = instances.0 }) labels.0 constants.0) c.words [] constants.1 >>= λ words. ended (record { version = version; variables = variables.0; instances = instances.0; labels = labels.0; constants = constants.0; words = words.0 }, words.1)) t e in
+    let b_variables = bind_ok (items_from (variable_at version total) c.variables [] bytes) (λ variables. items_from (instance_at version total variables.0) c.instances [] variables.1 >>= λ instances. items_from (mark_at version total) c.labels [] instances.1 >>= λ labels. items_from (constant_at version total) c.constants [] labels.1 >>= λ constants. items_from (next_word version total (record { variables = variables.0; instances = instances.0 }) labels.0 constants.0) c.words [] constants.1 >>= λ words. ended (record { version = version; variables = variables.0; instances = instances.0; labels = labels.0; constants = constants.0; words = words.0 }, words.1)) t e in
     let vs = b_variables.0.0 in
-    let b_instances = bind_ok (items_from (instance_at version total vs) c.instances [] b_variables.0.1) (λ instances. items_from (mark_at total) c.labels [] instances.1 >>= λ labels. items_from (constant_at version total) c.constants [] labels.1 >>= λ constants. items_from (next_word version total (record { variables = vs; instances = instances.0 }) labels.0 constants.0) c.words [] constants.1 >>= λ words. ended (record { version = version; variables = vs; instances = instances.0; labels = labels.0; constants = constants.0; words = words.0 }, words.1)) t b_variables.2 in
+    let b_instances = bind_ok (items_from (instance_at version total vs) c.instances [] b_variables.0.1) (λ instances. items_from (mark_at version total) c.labels [] instances.1 >>= λ labels. items_from (constant_at version total) c.constants [] labels.1 >>= λ constants. items_from (next_word version total (record { variables = vs; instances = instances.0 }) labels.0 constants.0) c.words [] constants.1 >>= λ words. ended (record { version = version; variables = vs; instances = instances.0; labels = labels.0; constants = constants.0; words = words.0 }, words.1)) t b_variables.2 in
     let xs = b_instances.0.0 in
-    let b_labels = bind_ok (items_from (mark_at total) c.labels [] b_instances.0.1) (λ labels. items_from (constant_at version total) c.constants [] labels.1 >>= λ constants. items_from (next_word version total (record { variables = vs; instances = xs }) labels.0 constants.0) c.words [] constants.1 >>= λ words. ended (record { version = version; variables = vs; instances = xs; labels = labels.0; constants = constants.0; words = words.0 }, words.1)) t b_instances.2 in
+    let b_labels = bind_ok (items_from (mark_at version total) c.labels [] b_instances.0.1) (λ labels. items_from (constant_at version total) c.constants [] labels.1 >>= λ constants. items_from (next_word version total (record { variables = vs; instances = xs }) labels.0 constants.0) c.words [] constants.1 >>= λ words. ended (record { version = version; variables = vs; instances = xs; labels = labels.0; constants = constants.0; words = words.0 }, words.1)) t b_instances.2 in
     let ms = b_labels.0.0 in
     let b_constants = bind_ok (items_from (constant_at version total) c.constants [] b_labels.0.1) (λ constants. items_from (next_word version total (record { variables = vs; instances = xs }) ms constants.0) c.words [] constants.1 >>= λ words. ended (record { version = version; variables = vs; instances = xs; labels = ms; constants = constants.0; words = words.0 }, words.1)) t b_labels.2 in
     let cs = b_constants.0.0 in
@@ -228,7 +230,7 @@ bodies_take version total c bytes t fits e =
     let b_words = bind_ok (items_from (next_word version total ds ms cs) c.words [] b_constants.0.1) (λ words. ended (record { version = version; variables = vs; instances = xs; labels = ms; constants = cs; words = words.0 }, words.1)) t b_constants.2 in
     let t0 = items_take (variable_at version total) (variable_bytes version) IsVariable (variable_takes version total) c.variables [] bytes b_variables.0 fits b_variables.1 in
     let t1 = items_take (instance_at version total vs) instance_bytes (IsInstance vs) (instance_takes version total vs) c.instances [] b_variables.0.1 b_instances.0 t0.takes.rest_fits b_instances.1 in
-    let t2 = items_take (mark_at total) mark_bytes IsMark (mark_takes total) c.labels [] b_instances.0.1 b_labels.0 t1.takes.rest_fits b_labels.1 in
+    let t2 = items_take (mark_at version total) mark_bytes IsMark (mark_takes version total) c.labels [] b_instances.0.1 b_labels.0 t1.takes.rest_fits b_labels.1 in
     let t3 = items_take (constant_at version total) (constant_bytes version) IsConstant (constant_takes version total) c.constants [] b_labels.0.1 b_constants.0 t2.takes.rest_fits b_constants.1 in
     let t4 = items_take (next_word version total ds ms cs) read_word_bytes (IsNext ds ms cs) (λ seen bytes x. word_takes version (total - length bytes) ds ms cs (length seen) bytes x) c.words [] b_constants.0.1 b_words.0 t3.takes.rest_fits b_words.1 in
     let made : Tables = record { version = version; variables = vs; instances = xs; labels = ms; constants = cs; words = b_words.0.0 } in
@@ -265,11 +267,12 @@ bodies_again total t are short =
     let IsWord = IsNext ds t.labels t.constants in
     let variables = items_may IsVariable (may_declare version) [] t.variables are.variables short.variables in
     let instances = items_may (IsInstance t.variables) (may_instantiate version) [] t.instances are.instances short.instances in
+    let labels = items_may IsMark (λ (m : Mark). may_call version m.name) [] t.labels are.labels short.labels in
     let constants = items_may IsConstant (may_keep version) [] t.constants are.constants short.constants in
     let words = items_may IsWord (may_read version) [] t.words are.words short.words in
     let h0 : items_from (variable_at version total) (length t.variables) [] (flat_map (variable_bytes version) t.variables ++ (b1 ++ (b2 ++ (b3 ++ b4)))) ≡ Ok (t.variables, b1 ++ (b2 ++ (b3 ++ b4))) = items_again (variable_at version total) (variable_bytes version) (MayHave (may_declare version) IsVariable) (λ seen v rest is. variable_again version total seen v rest is.0 is.1) t.variables [] (b1 ++ (b2 ++ (b3 ++ b4))) variables in
     let h1 : items_from (instance_at version total t.variables) (length t.instances) [] (b1 ++ (b2 ++ (b3 ++ b4))) ≡ Ok (t.instances, b2 ++ (b3 ++ b4)) = items_again (instance_at version total t.variables) instance_bytes (MayHave (may_instantiate version) (IsInstance t.variables)) (λ seen x rest is. instance_again version total t.variables seen x rest is.0 is.1) t.instances [] (b2 ++ (b3 ++ b4)) instances in
-    let h2 : items_from (mark_at total) (length t.labels) [] (b2 ++ (b3 ++ b4)) ≡ Ok (t.labels, b3 ++ b4) = items_again (mark_at total) mark_bytes IsMark (mark_again total) t.labels [] (b3 ++ b4) are.labels in
+    let h2 : items_from (mark_at version total) (length t.labels) [] (b2 ++ (b3 ++ b4)) ≡ Ok (t.labels, b3 ++ b4) = items_again (mark_at version total) mark_bytes (MayHave (λ (m : Mark). may_call version m.name) IsMark) (λ seen m rest is. mark_again version total seen m rest is.0 is.1) t.labels [] (b3 ++ b4) labels in
     let h3 : items_from (constant_at version total) (length t.constants) [] (b3 ++ b4) ≡ Ok (t.constants, b4) = items_again (constant_at version total) (constant_bytes version) (MayHave (may_keep version) IsConstant) (λ seen v rest is. constant_again version total seen v rest is.0 is.1) t.constants [] b4 constants in
     let h4 : items_from next (length t.words) [] b4 ≡ Ok (t.words, []) = ap (items_from next (length t.words) []) (sym (append-nil b4)) ∙ items_again next read_word_bytes (MayHave (may_read version) IsWord) (λ seen w rest is. word_again version (total - length (read_word_bytes w ++ rest)) ds t.labels t.constants (length seen) w rest is.0 is.1) t.words [] [] words in
     rw (h0, h1, h2, h3, h4) refl

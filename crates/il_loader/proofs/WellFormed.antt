@@ -1,9 +1,10 @@
 -- The programs that have an image are the well-formed ones, and the loader's reading is one of images.
+use Rattle.il_model.specs.declared.codes.Version.TheVariants as versions
 use Rattle.std.proofs.Common.{◌≡◌, ℕ, zero, suc, ◌+◌, ◌<◌, ◌≤◌, ◌^◌, Bool, true, false, cond, ltb, List, [], ◌∷◌, ◌++◌, length, map, Option, Some, None, Ok, refl, sym, ap, subst, ◌∙◌, arith}
-use Rattle.std.specs.Prelude.{ℤ, pos, negsuc, slice_get, is_some, is_none, not, nat_eq, ◌&&◌, ◌||◌}
+use Rattle.std.specs.Prelude.{ℤ, pos, negsuc, nat_abs, slice_get, is_some, is_none, not, nat_eq, ◌&&◌, ◌||◌}
 use Rattle.std.specs.List.{position, AllByRecursion, filter_map, cons_option, flat_map, list_any}
 use Rattle.std.specs.Option.{option_map, option_and_then}
-use Rattle.std.proofs.lemmas.Bool.{ltb-true, ltb-false, lt-ltb, eqb-true, eq-eqb, false_from_ne_true}
+use Rattle.std.proofs.lemmas.Bool.{ltb-true, ltb-false, lt-ltb, eqb-true, eq-eqb, false_from_ne_true, le-leb}
 use Rattle.std.proofs.lemmas.Slice.Eq.{bytes_eq-Decides}
 use Rattle.il_model.specs.declared.value.Ty.{Ty}
 use Rattle.il_model.specs.declared.value.Ty.TheVariants as types
@@ -15,7 +16,7 @@ use Rattle.il_model.specs.declared.kind.BlockKind.{BlockKind}
 use Rattle.il_model.specs.declared.kind.Field.{Field}
 use Rattle.il_model.specs.declared.program.Area.{Area}
 use Rattle.il_model.specs.declared.program.Loc.{Loc}
-use Rattle.il_model.specs.declared.program.Loc.TheVariants.{Bit, Word, Double}
+use Rattle.il_model.specs.declared.program.Loc.TheVariants.{Bit, Word, Pattern, Double}
 use Rattle.il_model.specs.declared.program.DoubleType.{DoubleType}
 use Rattle.il_model.specs.declared.program.DoubleType.TheVariants as doubles
 use Rattle.il_model.specs.declared.program.Side.{Side}
@@ -50,7 +51,7 @@ use Rattle.il_model.specs.Marks.{Mark, with_mark, word_count, marks_from}
 use Rattle.il_model.specs.Constants.{constants_of}
 use Rattle.il_model.specs.CodedOperands.{loc_code, IsCell, any_loc, HasOwnCode, with_code}
 use Rattle.il_model.specs.Image.{location_code, modifier_code, operand_code}
-use Rattle.il_model.specs.Codes.{if_passes, length_of, is_number, is_new_name, is_type, has_code, is_taken, is_overlapped, is_free, free_loc, coded_location, may_start_with, initial_of, is_known, usage_of, allowed_by, formed_by, has_form, modifier_of, variable_named, instance_named, field_named, named_operand, value_operand, label_there, target_name, is_jump, is_call, numbered_operand, is_empty}
+use Rattle.il_model.specs.Codes.{if_passes, length_in, has_under, is_number, is_new_name, is_type, has_code, is_taken, is_overlapped, is_free, free_loc, coded_location, may_start_with, initial_of, is_known, usage_of, allowed_by, formed_by, has_form, modifier_of, variable_named, instance_named, field_named, named_operand, value_operand, label_there, target_name, is_jump, is_call, numbered_operand, is_empty}
 use Rattle.il_model.specs.Fits as fitting
 use Rattle.il_model.specs.Fits.{AreItems, IsMark, IsConstant, IsPassing, IsWord, IsImage}
 use Rattle.il_model.specs.Lawful as lawful
@@ -200,17 +201,17 @@ parts_distinct (x ∷ xs) ys are = (all_both (IsNot x) xs ys are.first.0 are.acr
 
 -- ---- names
 
-name_is : (name : List ℕ) → length_of (length name) ≡ Some (length name) → is_lawful_name name ≡ true → IsName name
+name_is : (name : List ℕ) → length_in versions.Three (length name) ≡ Some (length name) → is_lawful_name name ≡ true → IsName name
 name_is name e l =
     let lt = length_below (length name) (length name) e in
-    let le : length name ≤ 32 = omega (arith, lt) in
+    let le : length name ≤ 96 = omega (arith, lt) in
     record { lawful = l; short = le }
 
-length_again : (name : List ℕ) → IsName name → length_of (length name) ≡ Some (length name)
+length_again : (name : List ℕ) → IsName name → length_in versions.Three (length name) ≡ Some (length name)
 length_again [] is = absurd (let e = is.lawful in cc)
 length_again (b ∷ bs) is =
-    let le : length (b ∷ bs) ≤ 32 = is.short in
-    rw (lt-ltb 0 (length (b ∷ bs)) (omega arith), lt-ltb (length (b ∷ bs)) 33 (omega (arith, le))) refl
+    let le : length (b ∷ bs) ≤ 96 = is.short in
+    rw (lt-ltb 0 (length (b ∷ bs)) (omega arith), le-leb (length (b ∷ bs)) 96 le) refl
 
 same_is : (a b : List ℕ) → same_name a b ≡ true → a ≡ b
 same_is a b e = (bytes_eq-Decides a b).0 e
@@ -240,10 +241,17 @@ word_there true area n t h e =
     subst (λ (u : Ty). IsThere u (Word area n)) is (record { cell = ltb-true n 64 h; suits = rw h refl })
 word_there false area n t h e = absurd cc
 
+pattern_there : (b : Bool) (area : Area) (n : ℕ) (t : Ty) → ltb n 64 ≡ b → cond b (Some types.Word) None ≡ Some t → IsThere t (Pattern area n)
+pattern_there true area n t h e =
+    let is : types.Word ≡ t = some_is types.Word t e in
+    subst (λ (u : Ty). IsThere u (Pattern area n)) is (record { cell = ltb-true n 64 h; suits = rw h refl })
+pattern_there false area n t h e = absurd cc
+
 own_type : (d : DoubleType) → same_type (double_type d) (double_type d) ≡ true
 own_type doubles.Dint = refl
 own_type doubles.Time = refl
 own_type doubles.Real = refl
+own_type doubles.Dword = refl
 
 double_there : (b : Bool) (area : Area) (n : ℕ) (d : DoubleType) (t : Ty) → begins_double n ≡ b → cond b (Some (double_type d)) None ≡ Some t → IsThere t (Double area n d)
 double_there true area n d t h e =
@@ -254,6 +262,7 @@ double_there false area n d t h e = absurd cc
 there : (loc : Loc) (t : Ty) → loc_type loc ≡ Some t → IsThere t loc
 there (Bit area n) t e = bit_there (ltb n 512) area n t refl e
 there (Word area n) t e = word_there (ltb n 64) area n t refl e
+there (Pattern area n) t e = pattern_there (ltb n 64) area n t refl e
 there (Double area n d) t e = double_there (begins_double n) area n d t refl e
 
 cell_by : (o : Option Ty) (loc : Loc) → loc_type loc ≡ o → is_some o ≡ true → IsCell loc
@@ -266,6 +275,7 @@ cell_of loc h = cell_by (loc_type loc) loc refl h
 typed_cell : (loc : Loc) → IsCell loc → is_some (loc_type loc) ≡ true
 typed_cell (Bit area n) lt = rw (lt-ltb n 512 lt) refl
 typed_cell (Word area n) lt = rw (lt-ltb n 64 lt) refl
+typed_cell (Pattern area n) lt = rw (lt-ltb n 64 lt) refl
 typed_cell (Double area n d) cell = rw cell refl
 
 suits_is : (t : Ty) (o : Option Ty) → is_type t o ≡ true → o ≡ Some t
@@ -306,6 +316,8 @@ zero_is types.Dint = refl
 zero_is types.Time = refl
 zero_is types.Lint = refl
 zero_is types.Real = refl
+zero_is types.Word = refl
+zero_is types.Dword = refl
 
 start_by : (b : Bool) (v : Value) (t : Ty) → (b ≡ false → v ≡ zero_of t) → (b || is_zero (number_of v)) ≡ true
 start_by true v t start = refl
@@ -331,6 +343,8 @@ zero_value (values.Dint z) e = ap values.Dint (zero_number z e)
 zero_value (values.Time z) e = ap values.Time (zero_number z e)
 zero_value (values.Lint z) e = ap values.Lint (zero_number z e)
 zero_value (values.Real r) e = real_same r zero_real (zero_number (pos r.pattern) e)
+zero_value (values.Word n) e = ap (λ (z : ℤ). values.Word (nat_abs z)) (zero_number (pos n) e)
+zero_value (values.Dword n) e = ap (λ (z : ℤ). values.Dword (nat_abs z)) (zero_number (pos n) e)
 
 -- the first value of a variable of an image
 record StartsSo (t : Ty) (o : Option Loc) (v : Value) : Type 0 where
@@ -422,6 +436,7 @@ no_code o part cell cells other = has_code_parts (loc_code part) o ∙ any_false
 parts_cells : (loc : Loc) → IsCell loc → AllByRecursion IsCell (parts_of loc)
 parts_cells (Bit a n) lt = (lt, tt)
 parts_cells (Word a n) lt = (lt, tt)
+parts_cells (Pattern a n) lt = (lt, tt)
 parts_cells (Double a n d) cell = let lt = double_fits n cell in (omega (arith, lt), (lt, tt))
 
 cells_by : (o : Option Loc) → ((loc : Loc) → o ≡ Some loc → IsCell loc) → AllByRecursion IsCell (parts_at o)
@@ -556,6 +571,7 @@ locations_apart v (w ∷ vs) all =
 abbrev number_at : Loc → ℕ
 number_at (Bit a n) = n
 number_at (Word a n) = n
+number_at (Pattern a n) = n
 number_at (Double a n d) = n
 
 -- a double word is two words
@@ -566,6 +582,7 @@ own_distinct : (o : Option Loc) → AreDistinct (parts_at o)
 own_distinct None = tt
 own_distinct (Some (Bit a n)) = (tt, tt)
 own_distinct (Some (Word a n)) = (tt, tt)
+own_distinct (Some (Pattern a n)) = (tt, tt)
 own_distinct (Some (Double a n d)) = ((two_words a n, tt), (tt, tt))
 
 apart_locations : (vs : List Variable) → Apart AreOther vs → AreDistinct (all_parts vs)
@@ -594,29 +611,35 @@ AreOtherInstances x y = x.name ≡ y.name → ⊥
 abbrev has_name : List ℕ → Instance → Bool
 has_name name x = same_name x.name name
 
--- its name is none of a variable
+-- its name is none of a variable, and none stands under it
 record IsOwnName (vs : List Variable) (x : Instance) : Type 0 where
   name : IsName x.name
   own : is_some (is_number vs x.name) ≡ false
+  apart : has_under vs x.name ≡ false
 
 instance_new : (vs : List Variable) (seen : List Instance) (x : Instance) → IsOwnName vs x → IsFreeInstance seen x → fitting.IsInstance vs seen x
-instance_new vs seen x is free = record {
-  length = length_again x.name is.name;
-  name = true_both (is_new_name vs x.name) (not (is_some (instance_in seen x.name)))
-      (true_both (is_lawful_name x.name) (not (is_some (is_number vs x.name))) is.name.lawful (true_not (is_some (is_number vs x.name)) is.own)) (true_not (is_some (instance_in seen x.name)) free);
-}
+instance_new vs seen x is free =
+    let lawful = true_both (is_lawful_name x.name) (not (is_some (is_number vs x.name))) is.name.lawful (true_not (is_some (is_number vs x.name)) is.own) in
+    let new = true_both (is_new_name vs x.name) (not (is_some (instance_in seen x.name))) lawful (true_not (is_some (instance_in seen x.name)) free) in
+    record {
+      length = length_again x.name is.name;
+      name = true_both (is_new_name vs x.name && not (is_some (instance_in seen x.name))) (not (has_under vs x.name)) new (true_not (has_under vs x.name) is.apart);
+    }
 
 instance_next : (vs : List Variable) (seen : List Instance) (y x : Instance) → IsOwnName vs y → IsOwnName vs x → IsFreeInstance seen x → AreOtherInstances y x → IsFreeInstance (seen ++ y ∷ []) x
 instance_next vs seen y x is-y is free other = ap is_some (position_past (has_name x.name) seen y (other_name y.name x.name other)) ∙ free
 
 instance_own : (vs : List Variable) (seen : List Instance) (x : Instance) → fitting.IsInstance vs seen x → IsOwnName vs x
 instance_own vs seen x is =
-    let new = both_true (is_new_name vs x.name) (not (is_some (instance_in seen x.name))) is.name in
+    let all = both_true (is_new_name vs x.name && not (is_some (instance_in seen x.name))) (not (has_under vs x.name)) is.name in
+    let new = both_true (is_new_name vs x.name) (not (is_some (instance_in seen x.name))) all.0 in
     let own = both_true (is_lawful_name x.name) (not (is_some (is_number vs x.name))) new.0 in
-    record { name = name_is x.name is.length own.0; own = not_true (is_some (is_number vs x.name)) own.1 }
+    record { name = name_is x.name is.length own.0; own = not_true (is_some (is_number vs x.name)) own.1; apart = not_true (has_under vs x.name) all.1 }
 
 instance_free : (vs : List Variable) (seen : List Instance) (x : Instance) → fitting.IsInstance vs seen x → IsFreeInstance seen x
-instance_free vs seen x is = not_true (is_some (instance_in seen x.name)) (both_true (is_new_name vs x.name) (not (is_some (instance_in seen x.name))) is.name).1
+instance_free vs seen x is =
+    let all = both_true (is_new_name vs x.name && not (is_some (instance_in seen x.name))) (not (has_under vs x.name)) is.name in
+    not_true (is_some (instance_in seen x.name)) (both_true (is_new_name vs x.name) (not (is_some (instance_in seen x.name))) all.0).1
 
 instance_back : (seen : List Instance) (y x : Instance) → IsFreeInstance (seen ++ y ∷ []) x → IsFreeInstance seen x × AreOtherInstances y x
 instance_back seen y x free = (not_in_front (has_name x.name) seen (y ∷ []) free, not_same y.name x.name (last_not (has_name x.name) seen y free))
@@ -656,11 +679,11 @@ across [] x xs all = (tt, tt)
 across (v ∷ vs) x xs all = let more = across vs x xs all.1 in ((all.0.0, more.0), (all.0.1, more.1))
 
 own_names : (vs : List Variable) (xs : List Instance) → AllByRecursion (λ (x : Instance). IsName x.name) xs → AllByRecursion (λ (n : List ℕ). AllByRecursion (IsNot n) (map instance_name xs)) (map name_of vs)
-    → AllByRecursion (IsOwnName vs) xs
-own_names vs [] names apart = tt
-own_names vs (x ∷ xs) names apart =
+    → AllByRecursion (λ (x : Instance). has_under vs x.name ≡ false) xs → AllByRecursion (IsOwnName vs) xs
+own_names vs [] names apart free = tt
+own_names vs (x ∷ xs) names apart free =
     let more = across vs x.name (map instance_name xs) apart in
-    (record { name = names.0; own = no_variable vs x.name more.0 }, own_names vs xs names.1 more.1)
+    (record { name = names.0; own = no_variable vs x.name more.0; apart = free.0 }, own_names vs xs names.1 more.1 free.1)
 
 -- the name of each variable differs from those of all instances
 name_across : (vs : List Variable) (v : Variable) (xs : List Instance) → AllByRecursion (λ (x : Instance). same_name v.name x.name ≡ false) xs → AllByRecursion (IsNot v.name) (map instance_name xs)
@@ -782,7 +805,7 @@ pub has_image : (Q : Program) → IsWellFormed Q → IsImage Q
 has_image Q is =
     let parts = distinct_parts (map name_of Q.variables) (map instance_name Q.instances) is.names in
     let variables = are_items fitting.IsVariable IsVariable IsFreeVariable AreOther variable_new variable_next [] Q.variables is.variables (none_free Q.variables) (variables_apart Q.variables parts.first is.locations) in
-    let own = own_names Q.variables Q.instances is.instances parts.across in
+    let own = own_names Q.variables Q.instances is.instances parts.across is.apart in
     let instances = are_items (fitting.IsInstance Q.variables) (IsOwnName Q.variables) IsFreeInstance AreOtherInstances (instance_new Q.variables) (instance_next Q.variables) [] Q.instances own (no_instances Q.instances) (instances_apart Q.instances parts.second) in
     lawful_image Q variables is.small.variables instances is.small.instances is.small.code (lines_lawful Q Q.code is.code (typed_lines Q (faultless Q is.typed))) is.typed
 
@@ -893,6 +916,7 @@ well_formed Q is =
       variables = items_all fitting.IsVariable IsVariable variable_is [] Q.variables text.variables;
       instances = all_map (IsOwnName Q.variables) (λ (x : Instance). IsName x.name) (λ x own. own.name) Q.instances own;
       names = parts_distinct (map name_of Q.variables) (map instance_name Q.instances) (record { first = apart_names Q.variables variables.1; second = apart_instances Q.instances instances.1; across = names_across Q.variables Q.instances own });
+      apart = all_map (IsOwnName Q.variables) (λ (x : Instance). has_under Q.variables x.name ≡ false) (λ x own. own.apart) Q.instances own;
       locations = apart_locations Q.variables variables.1;
       code = lines_read Q Q.code values labels words;
       typed = is.typed;

@@ -6,6 +6,7 @@ use Rattle.std.specs.Option.{option_map, option_and_then}
 use Rattle.std.proofs.lemmas.Bool.{eqb-true}
 use Rattle.std.proofs.lemmas.List.{append-nil}
 use Rattle.std.proofs.lemmas.Slice.Eq.{bytes_eq-Decides}
+use Rattle.il_model.specs.declared.codes.Version.TheVariants as versions
 use Rattle.il_model.specs.declared.value.Value.{Value}
 use Rattle.il_model.specs.declared.op.Op.{Op}
 use Rattle.il_model.specs.declared.op.Modifier.{Modifier}
@@ -33,9 +34,10 @@ use Rattle.il_model.specs.Marks.{Mark, address_of}
 use Rattle.il_model.specs.Constants.{same_value}
 use Rattle.il_model.specs.Image.{numbered, coded_field, number_or_unused, operand_code}
 use Rattle.il_model.specs.CodedOperands.{code_of, with_code}
-use Rattle.il_model.specs.Codes.{length_of, is_number, is_new_name, variable_named, instance_named, field_named, usage_of, formed_by, has_form, named_operand, value_operand, label_there, target_name, is_jump, is_call, numbered_operand, word_operand, argument_name, argument_operand}
+use Rattle.il_model.specs.Codes.{length_in, is_number, is_new_name, variable_named, instance_named, field_named, usage_of, formed_by, has_form, named_operand, value_operand, label_there, target_name, is_jump, is_call, numbered_operand, word_operand, argument_name, argument_operand}
 use Rattle.il_model.specs.Fits.{IsVariable, IsInstance, IsMark, AreItems}
 use Rattle.il_model.proofs.CodedOperands.{coded_back}
+use Rattle.il_model.proofs.RowTypes.{and_yes}
 use Rattle.il_model.proofs.Marks.{AreLabelled, label_in}
 use Rattle.il_model.proofs.ConstantLists.{AreApart, same_self}
 use Rattle.il_model.proofs.Positions.{position_behind, found_last, not_in_front}
@@ -111,7 +113,9 @@ variable_place : (vs : List Variable) (k : ℕ) (v : Variable) → AreItems IsVa
 variable_place vs k v are there = name_found IsVariable (λ (w : Variable). w.name) variable_new vs k v are there
 
 instance_new : (vs : List Variable) (seen : List Instance) (x : Instance) → IsInstance vs seen x → named_before (λ (y : Instance). y.name) seen x.name ≡ false
-instance_new vs seen x is = not_true (is_some (instance_in seen x.name)) (and_right (is_new_name vs x.name) (not (is_some (instance_in seen x.name))) is.name)
+instance_new vs seen x is =
+    let other = and_yes (is_new_name vs x.name && not (is_some (instance_in seen x.name))) _ is.name in
+    not_true (is_some (instance_in seen x.name)) (and_right (is_new_name vs x.name) (not (is_some (instance_in seen x.name))) other.0)
 
 instance_place : (vs : List Variable) (xs : List Instance) (k : ℕ) (x : Instance) → AreItems (IsInstance vs) [] xs → slice_get xs k ≡ Some x → instance_in xs x.name ≡ Some k
 instance_place vs xs k x are there = name_found (IsInstance vs) (λ (y : Instance). y.name) (instance_new vs) xs k x are there
@@ -194,11 +198,11 @@ label_new : (seen ms : List Mark) (k : ℕ) (x : List ℕ) → AreItems IsMark s
 label_new seen [] k x are e = absurd cc
 label_new seen (m ∷ ms) k x are e = label_new_by (eqb m.at k) seen m ms k x refl are.0 e (λ h. label_new (seen ++ m ∷ []) ms k x are.1 h)
 
-long_by : (b : Bool) (seen : List Mark) (m : Mark) (o : Option (List ℕ)) (x : List ℕ) → IsMark seen m → cond b (Some m.name) o ≡ Some x → (o ≡ Some x → length_of (length x) ≡ Some (length x)) → length_of (length x) ≡ Some (length x)
-long_by true seen m o x is e ih = let here : m.name ≡ x = cc in subst (λ (y : List ℕ). length_of (length y) ≡ Some (length y)) here is.length
+long_by : (b : Bool) (seen : List Mark) (m : Mark) (o : Option (List ℕ)) (x : List ℕ) → IsMark seen m → cond b (Some m.name) o ≡ Some x → (o ≡ Some x → length_in versions.Three (length x) ≡ Some (length x)) → length_in versions.Three (length x) ≡ Some (length x)
+long_by true seen m o x is e ih = let here : m.name ≡ x = cc in subst (λ (y : List ℕ). length_in versions.Three (length y) ≡ Some (length y)) here is.length
 long_by false seen m o x is e ih = ih e
 
-label_long : (seen ms : List Mark) (k : ℕ) (x : List ℕ) → AreItems IsMark seen ms → label_there ms k ≡ Some x → length_of (length x) ≡ Some (length x)
+label_long : (seen ms : List Mark) (k : ℕ) (x : List ℕ) → AreItems IsMark seen ms → label_there ms k ≡ Some x → length_in versions.Three (length x) ≡ Some (length x)
 label_long seen [] k x are e = absurd cc
 label_long seen (m ∷ ms) k x are e = long_by (eqb m.at k) seen m (label_there ms k) x are.0 e (λ h. label_long (seen ++ m ∷ []) ms k x are.1 h)
 

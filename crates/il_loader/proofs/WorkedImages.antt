@@ -52,11 +52,11 @@ copying_bytes = 73 ∷ 76 ∷ 80 ∷ 67 ∷ 0 ∷ 1 ∷ 0 ∷ 2 ∷ 0 ∷ 0 ∷ 
 
 x_named : IsName (codes "X")
 unfolding is_well_spelled spells look mnemonic_of
-x_named = record { lawful = refl; short = (let le : 1 ≤ 32 = omega arith in le) }
+x_named = record { lawful = refl; short = (let le : 1 ≤ 96 = omega arith in le) }
 
 y_named : IsName (codes "Y")
 unfolding is_well_spelled spells look mnemonic_of
-y_named = record { lawful = refl; short = (let le : 1 ≤ 32 = omega arith in le) }
+y_named = record { lawful = refl; short = (let le : 1 ≤ 96 = omega arith in le) }
 
 first_of : (a b : Loc) → (let o : Option Loc = Some a in o ≡ Some b) → a ≡ b
 first_of a b e = cc
@@ -82,6 +82,7 @@ copying_is = record {
   variables = (record { name = x_named; type = refl; range = refl; location = x_lies }, (record { name = y_named; type = refl; range = refl; location = y_lies }, tt));
   instances = tt;
   names = ((other_names, tt), (tt, tt));
+  apart = tt;
   locations = (((λ e. cc), tt), (tt, tt));
   code = (loads (codes "X"), (stores (codes "Y"), tt));
   typed = is_typed copying refl;
@@ -130,7 +131,8 @@ unfolding is_well_spelled spells look mnemonic_of
 reserved is = let e = is.lawful in cc
 
 long_name : IsName (codes "ABCDEFGHIJKLMNOPQRSTUVWXYZABCDEFG") → ⊥
-long_name is = let le : 33 ≤ 32 = is.short in absurd (omega (arith, le))
+unfolding is_well_spelled spells look mnemonic_of
+long_name is = let e = is.lawful in cc
 
 -- a first value of another type, and one out of its range
 other_type : IsVariable (variable (codes "A") types.Dint None (values.Int (pos 1))) → ⊥

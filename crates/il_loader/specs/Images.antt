@@ -1,7 +1,7 @@
 -- Which programs have an image, and what it is to read images: from the bytes of one its program, and from others none.
 use Rattle.std.specs.Prelude.{◌≡◌, ◌<◌, ◌≤◌, ℕ, false, true, List, ◌++◌, length, map, get_or, Some, is_some, Result, Ok}
 use Rattle.std.specs.List.{AllByRecursion, filter_map, flat_map}
-use Rattle.il_model.specs.declared.limits.TheConstants.{LONGEST_NAME}
+use Rattle.il_model.specs.declared.limits.TheConstants.{LONGEST_DOTTED_NAME}
 use Rattle.il_model.specs.declared.value.Value.{Value}
 use Rattle.il_model.specs.declared.program.Loc.{Loc}
 use Rattle.il_model.specs.declared.program.Variable.{Variable}
@@ -16,7 +16,7 @@ use Rattle.il_model.specs.Locations.{area_of, parts_of, is_nameable}
 use Rattle.il_model.specs.Program.{Program, IsSmall}
 use Rattle.il_model.specs.Typing.{loc_type, is_writable_area, IsTyped}
 use Rattle.il_model.specs.Constants.{operands_in}
-use Rattle.il_model.specs.Codes.{usage_of, allows, has_form}
+use Rattle.il_model.specs.Codes.{usage_of, allows, has_form, has_under}
 use Rattle.il_model.specs.Image.{spelling}
 use Rattle.il_loader.specs.declared.fault.LoadFault.{LoadFault}
 use Rattle.il_loader.specs.declared.fault.LoadFault.TheVariants.{Truncated, BadMagic, BadVersion, BadCount, BadWord}
@@ -29,7 +29,7 @@ use Rattle.il_loader.specs.declared.fault.LoadError.TheVariants as errors
 -- a name that may be given, and isn't too long
 pub record IsName (name : List ℕ) : Type 0 where
   pub lawful : is_lawful_name name ≡ true
-  pub short : length name ≤ LONGEST_NAME
+  pub short : length name ≤ LONGEST_DOTTED_NAME
 
 -- a value in the range of its type
 abbrev pub IsInRange : Value → Type 0
@@ -67,6 +67,8 @@ pub record IsWellFormed (Q : Program) : Type 0 where
   pub variables : AllByRecursion IsVariable Q.variables
   pub instances : AllByRecursion (λ (x : Instance). IsName x.name) Q.instances
   pub names : AreDistinct (map (λ (v : Variable). v.name) Q.variables ++ map (λ (x : Instance). x.name) Q.instances)
+  -- no variable stands under an instance, as a field of the instance would
+  pub apart : AllByRecursion (λ (x : Instance). has_under Q.variables x.name ≡ false) Q.instances
   pub locations : AreDistinct (flat_map parts_of (filter_map (λ (v : Variable). v.location) Q.variables))
   pub code : AllByRecursion IsInstruction Q.code
   pub typed : IsTyped Q

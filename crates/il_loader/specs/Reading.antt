@@ -1,5 +1,5 @@
 -- Reading an image from left to right, with the first fault that is met.
-use Rattle.std.specs.Prelude.{◌≡◌, ℕ, ℤ, ◌-◌, zero, suc, Bool, true, false, List, [], ◌∷◌, ◌++◌, length, take, drop}
+use Rattle.std.specs.Prelude.{◌≡◌, ℕ, ℤ, ◌-◌, zero, suc, Bool, true, false, ◌&&◌, List, [], ◌∷◌, ◌++◌, length, take, drop}
 use Rattle.std.specs.Prelude.{Option, Some, None, Result, Ok, Err, nat_lt, nat_le, nat_eq, if◌then◌else◌}
 use Rattle.std.specs.Int.{Width, w8, w16, w32, byte_len, from_be_bytes, cast_signed}
 use Rattle.il_model.specs.declared.limits.TheConstants.{MOST_VARIABLES, MOST_INSTANCES, MOST_INSTRUCTIONS}
@@ -9,13 +9,13 @@ use Rattle.il_model.specs.declared.program.Variable.{Variable}
 use Rattle.il_model.specs.declared.program.Instance.{Instance}
 use Rattle.il_model.specs.declared.program.Side.{Side}
 use Rattle.il_model.specs.Program.{Declarations}
-use Rattle.il_model.specs.Image.{magic, number_width}
+use Rattle.il_model.specs.Image.{magic, number_width, may_call}
 use Rattle.il_model.specs.declared.codes.Version.{Version}
 use Rattle.il_model.specs.Kinds.{kind_of_code}
 use Rattle.il_loader.specs.declared.word.Content.TheVariants as contents
 use Rattle.il_model.specs.declared.value.Value.{Value}
 use Rattle.il_model.specs.Marks.{Mark}
-use Rattle.il_model.specs.Codes.{is_new_name, is_new_instance, is_new_label, length_of, type_in, version_numbered}
+use Rattle.il_model.specs.Codes.{is_new_name, is_new_instance, is_new_label, length_in, type_in, version_numbered}
 use Rattle.il_model.specs.Codes.{coded_location_in, initial_of, constant_of, op_in, letters_of, label_there}
 use Rattle.il_model.specs.Codes.{word_operand_in, side_of, argument_number, argument_operand_in, retained_in}
 use Rattle.il_model.specs.Codes.{plain_code}
@@ -105,17 +105,17 @@ header_at bytes = do
 
 -- ---- names
 
-unfoldable pub spelled_name_at : ℕ → List ℕ → Result (List ℕ × List ℕ) LoadFault
-spelled_name_at pos bytes = do
+unfoldable pub spelled_name_at : Version → ℕ → List ℕ → Result (List ℕ × List ℕ) LoadFault
+spelled_name_at version pos bytes = do
   first ← number_at w8 bytes
-  n ← lawful pos (length_of first.0)
+  n ← lawful pos (length_in version first.0)
   if nat_lt (length first.1) n then Err Truncated else Ok (take n first.1, drop n first.1)
 
--- a name that passes a test
-unfoldable pub name_at : ℕ → (List ℕ → Bool) → List ℕ → Result (List ℕ × List ℕ) LoadFault
-name_at pos is_new bytes = do
-  name ← spelled_name_at pos bytes
-  new ← agrees (BadWord pos) (is_new name.0)
+-- a name that an image of this version may have, and that passes a test
+unfoldable pub name_at : Version → ℕ → (List ℕ → Bool) → List ℕ → Result (List ℕ × List ℕ) LoadFault
+name_at version pos is_new bytes = do
+  name ← spelled_name_at version pos bytes
+  new ← agrees (BadWord pos) (may_call version name.0 && is_new name.0)
   Ok name
 
 -- ---- records; a fault in one stands where it begins
@@ -136,7 +136,7 @@ declared_at version pos bytes = do
 
 unfoldable pub variable_at : Version → ℕ → List Variable → List ℕ → Result (Variable × List ℕ) LoadFault
 variable_at version total seen bytes = do
-  name ← name_at (total - length bytes) (is_new_name seen) bytes
+  name ← name_at version (total - length bytes) (is_new_name seen) bytes
   code ← declared_at version (total - length bytes) name.1
   type ← lawful (total - length bytes) (type_in version code.0.1)
   place ← number_at w16 code.1
@@ -147,15 +147,15 @@ variable_at version total seen bytes = do
 unfoldable pub instance_at : Version → ℕ → List Variable → List Instance → List ℕ
     → Result (Instance × List ℕ) LoadFault
 instance_at version total vs seen bytes = do
-  name ← name_at (total - length bytes) (is_new_instance vs seen) bytes
+  name ← name_at version (total - length bytes) (is_new_instance vs seen) bytes
   code ← declared_at version (total - length bytes) name.1
   kind ← lawful (total - length bytes) (kind_of_code code.0.1)
   Ok (record { name = name.0; kind = kind; retained = code.0.0 }, code.1)
 
 -- a label; whether an instruction begins at its address is judged later
-unfoldable pub mark_at : ℕ → List Mark → List ℕ → Result (Mark × List ℕ) LoadFault
-mark_at total seen bytes = do
-  name ← name_at (total - length bytes) (is_new_label seen) bytes
+unfoldable pub mark_at : Version → ℕ → List Mark → List ℕ → Result (Mark × List ℕ) LoadFault
+mark_at version total seen bytes = do
+  name ← name_at version (total - length bytes) (is_new_label seen) bytes
   address ← number_at w16 name.1
   Ok (record { name = name.0; at = address.0 }, address.1)
 
@@ -222,7 +222,7 @@ unfoldable pub bodies_at : Version → ℕ → Counts → List ℕ → Result Ta
 bodies_at version total counts bytes = do
   variables ← items_from (variable_at version total) counts.variables [] bytes
   instances ← items_from (instance_at version total variables.0) counts.instances [] variables.1
-  labels ← items_from (mark_at total) counts.labels [] instances.1
+  labels ← items_from (mark_at version total) counts.labels [] instances.1
   constants ← items_from (constant_at version total) counts.constants [] labels.1
   words ← items_from (next_word version total
       (record { variables = variables.0; instances = instances.0 }) labels.0 constants.0) counts.words [] constants.1

@@ -15,13 +15,13 @@ pub enum LoadFault {
     Truncated,
     #[error("bad magic")]
     BadMagic,
-    /// The version is neither 1 nor 2, or not the one that the program has; the latter is found last.
+    /// The version is none of 1, 2 and 3, or not the one that the program has; the latter is found last.
     #[error("bad version")]
     BadVersion,
     /// There are more records than a program may have.
     #[error("bad count")]
     BadCount,
-    /// A field has no lawful value, or a name or a location stands twice.
+    /// A field has no lawful value, a name or a location stands twice, or a variable stands under an instance.
     #[error("bad word at {position}")]
     BadWord { position: usize },
     /// An instruction doesn't find the types that it needs.

@@ -9,6 +9,7 @@ ghost use Rattle.il_loader.specs.Reading.{Gives, number_at, signed_at, lawful, a
 ghost use Rattle.il_loader.specs.Reading.{lawful_version, header_at, spelled_name_at, first_value_at, variable_at};
 ghost use Rattle.il_loader.specs.Reading.{instance_at, mark_at, constant_at, instruction_at, argument_at, word_at};
 ghost use Rattle.il_loader.specs.Reading.{next_word, declared_at};
+ghost use Rattle.il_model.specs.Image.{may_call};
 
 use crate::counts::Counts;
 use crate::declared::SymbolTables;
@@ -21,8 +22,8 @@ use crate::word::{Content, Word};
 use il_model::{
     Arguments, BlockKind, CodedOperand, Constants, Instance, Instr, Loc, MAGIC, MOST_INSTANCES,
     MOST_INSTRUCTIONS, MOST_VARIABLES, Name, Side, Ty, Value, Variable, Version, initial_of,
-    is_type, length_of, letters_of, loc_type, make, op_in, plain_code, retained_in, side_of,
-    type_in,
+    is_type, length_in, letters_of, loc_type, make, name_version, op_in, plain_code, retained_in,
+    side_of, type_in,
 };
 use std::alloc::Global;
 
@@ -162,22 +163,33 @@ pub fn header_at(bytes: &[u8]) -> Result<(Version, Counts, &[u8]), LoadError>
 }
 
 #[tactic(auto, unfolding(crate::specs::Reading::spelled_name_at))]
-fn spelled_name_at(position: usize, bytes: &[u8]) -> Result<(&[u8], &[u8]), LoadError>
-    ensures { Gives (λ x. (x.0.now, x.1.now)) result (spelled_name_at position bytes.now) }
+fn spelled_name_at(
+    version: Version,
+    position: usize,
+    bytes: &[u8],
+) -> Result<(&[u8], &[u8]), LoadError>
+    ensures { Gives (λ x. (x.0.now, x.1.now)) result (spelled_name_at version position bytes.now) }
 {
     let (first, rest) = u8_at(bytes)?;
-    let n = lawful(position, length_of(first))? as usize;
+    let n = lawful(position, length_in(version, first))? as usize;
     if rest.len() < n {
         return Err(LoadError::Fault(LoadFault::Truncated));
     }
     Ok(rest.split_at(n))
 }
 
-/// Whether a name is lawful and neither a variable nor an instance has it.
+/// Whether a name is lawful, neither a variable nor an instance has it, and no variable stands under it.
 fn is_new_instance(variables: &Variables, seen: &Instances, name: &[u8]) -> bool
     ensures { result ≡ is_new_instance variables.now seen.now name.now }
 {
-    variables.is_new(name) && !seen.number_of(name).is_some()
+    variables.is_new(name) && !seen.number_of(name).is_some() && !variables.has_under(name)
+}
+
+/// Whether an image of this version may have the name.
+fn may_call(version: Version, name: &[u8]) -> bool
+    ensures { result ≡ may_call version name.now }
+{
+    version.may_have(name_version(name))
 }
 
 /// Whether a location is of the type and no other variable has a part of it.
@@ -258,8 +270,11 @@ fn variable_at<'a>(
     ensures name { IfOk result (λ x. x.1.now ≡ x.0.name) }
 {
     let position = total.saturating_sub(bytes.len());
-    let (name, rest) = spelled_name_at(position, bytes)?;
-    agrees(LoadFault::BadWord { position }, seen.is_new(name))?;
+    let (name, rest) = spelled_name_at(version, position, bytes)?;
+    agrees(
+        LoadFault::BadWord { position },
+        may_call(version, name) && seen.is_new(name),
+    )?;
     let (retained, code, rest) = declared_at(version, position, rest)?;
     let ty = lawful(position, type_in(version, code))?;
     let (place, rest) = u16_at(rest)?;
@@ -290,10 +305,10 @@ fn instance_at<'a>(
     ensures name { IfOk result (λ x. x.1.now ≡ x.0.name) }
 {
     let position = total.saturating_sub(bytes.len());
-    let (name, rest) = spelled_name_at(position, bytes)?;
+    let (name, rest) = spelled_name_at(version, position, bytes)?;
     agrees(
         LoadFault::BadWord { position },
-        is_new_instance(variables, seen, name),
+        may_call(version, name) && is_new_instance(variables, seen, name),
     )?;
     let (retained, code, rest) = declared_at(version, position, rest)?;
     let kind = lawful(position, BlockKind::of_code(code))?;
@@ -308,15 +323,19 @@ fn instance_at<'a>(
 /// A label.
 #[tactic(auto, unfolding(crate::specs::Reading::mark_at, crate::specs::Reading::name_at))]
 fn mark_at<'a>(
+    version: Version,
     total: usize,
     seen: &Labels,
     bytes: &'a [u8],
 ) -> Result<(Label<'a>, &'a [u8]), LoadError>
-    ensures { Gives (λ x. (x.0, x.1.now)) result (mark_at total seen.now bytes.entry.now) }
+    ensures { Gives (λ x. (x.0, x.1.now)) result (mark_at version total seen.now bytes.entry.now) }
 {
     let position = total.saturating_sub(bytes.len());
-    let (name, rest) = spelled_name_at(position, bytes)?;
-    agrees(LoadFault::BadWord { position }, seen.is_new(name))?;
+    let (name, rest) = spelled_name_at(version, position, bytes)?;
+    agrees(
+        LoadFault::BadWord { position },
+        may_call(version, name) && seen.is_new(name),
+    )?;
     let (at, rest) = u16_at(rest)?;
     Ok((Label { name, at }, rest))
 }
@@ -476,16 +495,17 @@ pub fn instances_of<'a>(
 /// The labels, of which there are `count`, and the bytes behind them.
 pub fn labels_of<'a>(
     alloc: Global,
+    version: Version,
     total: usize,
     count: u16,
     bytes: &'a [u8],
 ) -> Result<(Labels<'a>, &'a [u8]), LoadError>
-    ensures { Gives (λ x. (x.0, x.1.now)) result (items_from (mark_at total) count [] bytes.entry.now) }
+    ensures { Gives (λ x. (x.0, x.1.now)) result (items_from (mark_at version total) count [] bytes.entry.now) }
 {
     let mut seen = Labels::new(alloc);
     let mut rest = bytes;
     for _ in 0..count {
-        let (one, after) = mark_at(total, &seen, rest)?;
+        let (one, after) = mark_at(version, total, &seen, rest)?;
         seen = seen.with(one)?;
         rest = after;
     }

@@ -62,7 +62,7 @@ fn bodies_at<'a>(
         counts.instances,
         rest,
     )?;
-    let (labels, rest) = labels_of(alloc, total, counts.labels, rest)?;
+    let (labels, rest) = labels_of(alloc, version, total, counts.labels, rest)?;
     let (constants, rest) = constants_of(alloc, version, total, counts.constants, rest)?;
     let tables = SymbolTables {
         version,

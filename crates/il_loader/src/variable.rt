@@ -3,7 +3,7 @@
 ghost use Rattle.std.specs.Prelude.{◌≡◌, ◌++◌, [], ◌∷◌, OnOk};
 ghost use Rattle.il_loader.specs.NameTables.{AreNumbered};
 
-use il_model::{Loc, Variable, is_lawful_name, is_overlapping, put_code};
+use il_model::{Loc, Variable, is_lawful_name, is_overlapping, put_code, stands_under};
 use std::alloc::{AllocError, Global};
 use std::collections::{BTreeMap, BTreeSet};
 use std::marker::Model;
@@ -46,7 +46,7 @@ fn put_number<'a>(
 
 impl<'a> Variables<'a> {
     ghost use Rattle.std.specs.Prelude.{◌≡◌, ◌<◌, ◌^◌, ◌++◌, IfOk, IfSome, [], ◌∷◌};
-    ghost use Rattle.il_model.specs.Codes.{is_number, is_new_name, is_overlapped};
+    ghost use Rattle.il_model.specs.Codes.{is_number, is_new_name, has_under, is_overlapped};
 
     /// No variables.
     pub fn new(alloc: Global) -> Variables<'a>
@@ -106,6 +106,15 @@ impl<'a> Variables<'a> {
         ensures { result ≡ is_new_name self.now name.now }
     {
         is_lawful_name(name) && !self.number_of(name).is_some()
+    }
+
+    /// Whether a variable stands under the name.
+    pub fn has_under(&self, name: &[u8]) -> bool
+        ensures { result ≡ has_under self.now name.now }
+    {
+        self.found
+            .iter()
+            .any(|v| stands_under(name, v.name.bytes()))
     }
 
     /// Whether a variable lies at a part of this location.

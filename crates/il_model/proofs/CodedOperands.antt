@@ -6,7 +6,7 @@ use Rattle.std.proofs.lemmas.Bool.{ltb-true, ltb-false, lt-ltb, le-ltb, eqb-true
 use Rattle.il_model.specs.declared.program.Area.{Area}
 use Rattle.il_model.specs.declared.program.Area.TheVariants as areas
 use Rattle.il_model.specs.declared.program.Loc.{Loc}
-use Rattle.il_model.specs.declared.program.Loc.TheVariants.{Bit, Word, Double}
+use Rattle.il_model.specs.declared.program.Loc.TheVariants.{Bit, Word, Pattern, Double}
 use Rattle.il_model.specs.declared.program.DoubleType.{DoubleType}
 use Rattle.il_model.specs.declared.program.DoubleType.TheVariants as doubles
 use Rattle.il_model.specs.declared.coded_operand.CodedOperand.{CodedOperand}
@@ -16,7 +16,7 @@ use Rattle.il_model.specs.declared.program.Variable as declarations
 use Rattle.il_model.specs.Locations.{begins_double}
 use Rattle.il_model.specs.Typing.{loc_type}
 use Rattle.il_model.specs.Codes.{is_type, is_overlapped, coded_location}
-use Rattle.il_model.specs.CodedOperands.{base_of, first_double, loc_code, IsCell, double_loc, double_there, area_loc, any_loc, code_of, HasOwnCode, with_code}
+use Rattle.il_model.specs.CodedOperands.{base_of, first_double, loc_code, IsCell, double_loc, pattern_loc, double_there, area_loc, any_loc, code_of, HasOwnCode, with_code}
 use Rattle.il_model.proofs.LocationLaws.{double_fits}
 
 same_loc : (x y : Loc) → Some x ≡ Some y → x ≡ y
@@ -51,17 +51,30 @@ real_there : (area : Area) (n : ℕ) → begins_double n ≡ true → area_loc a
 real_there area n cell =
     let lt = double_fits n cell in
     let back : 1792 + n - 1792 ≡ n = omega arith in
-    rw (le-ltb (1792 + n) 512 (omega arith), le-ltb (1792 + n) 1024 (omega arith), le-ltb (1792 + n) 1088 (omega arith), le-ltb (1792 + n) 1280 (omega arith), le-ltb (1792 + n) 1536 (omega arith), le-ltb (1792 + n) 1792 (omega arith), back, cell) refl
+    rw (le-ltb (1792 + n) 512 (omega arith), le-ltb (1792 + n) 1024 (omega arith), le-ltb (1792 + n) 1088 (omega arith), le-ltb (1792 + n) 1280 (omega arith), le-ltb (1792 + n) 1536 (omega arith), le-ltb (1792 + n) 1792 (omega arith), lt-ltb (1792 + n) 2048 (omega (arith, lt)), back, cell) refl
+
+dword_there : (area : Area) (n : ℕ) → begins_double n ≡ true → area_loc area (2048 + n) ≡ Some (Double area n doubles.Dword)
+dword_there area n cell =
+    let lt = double_fits n cell in
+    let back : 2048 + n - 2048 ≡ n = omega arith in
+    rw (le-ltb (2048 + n) 512 (omega arith), le-ltb (2048 + n) 1024 (omega arith), le-ltb (2048 + n) 1088 (omega arith), le-ltb (2048 + n) 1280 (omega arith), le-ltb (2048 + n) 1536 (omega arith), le-ltb (2048 + n) 1792 (omega arith), le-ltb (2048 + n) 2048 (omega arith), lt-ltb (2048 + n) 2304 (omega (arith, lt)), back, cell) refl
+
+pattern_there : (area : Area) (n : ℕ) → n < 64 → area_loc area (2304 + n) ≡ Some (Pattern area n)
+pattern_there area n lt =
+    let back : 2304 + n - 2304 ≡ n = omega arith in
+    rw (le-ltb (2304 + n) 512 (omega arith), le-ltb (2304 + n) 1024 (omega arith), le-ltb (2304 + n) 1088 (omega arith), le-ltb (2304 + n) 1280 (omega arith), le-ltb (2304 + n) 1536 (omega arith), le-ltb (2304 + n) 1792 (omega arith), le-ltb (2304 + n) 2048 (omega arith), le-ltb (2304 + n) 2304 (omega arith), back, lt-ltb n 64 lt) refl
 
 double_found : (area : Area) (t : DoubleType) (n : ℕ) → begins_double n ≡ true → area_loc area (first_double t + n) ≡ Some (Double area n t)
 double_found area doubles.Dint n cell = dint_there area n cell
 double_found area doubles.Time n cell = time_there area n cell
 double_found area doubles.Real n cell = real_there area n cell
+double_found area doubles.Dword n cell = dword_there area n cell
 
-double_small : (t : DoubleType) → first_double t ≤ 1792
+double_small : (t : DoubleType) → first_double t ≤ 2048
 double_small doubles.Dint = omega arith
 double_small doubles.Time = omega arith
 double_small doubles.Real = omega arith
+double_small doubles.Dword = omega arith
 
 any_there : (area : Area) (n : ℕ) → n < 4096 → any_loc (base_of area + n) ≡ area_loc area n
 any_there areas.Input n lt =
@@ -77,6 +90,7 @@ any_there areas.Memory n lt =
 pub loc_again : (loc : Loc) → IsCell loc → any_loc (loc_code loc) ≡ Some loc
 loc_again (Bit area n) lt = any_there area n (omega (arith, lt)) ∙ bit_there area n lt
 loc_again (Word area n) lt = any_there area (1024 + n) (omega (arith, lt)) ∙ word_there area n lt
+loc_again (Pattern area n) lt = any_there area (2304 + n) (omega (arith, lt)) ∙ pattern_there area n lt
 loc_again (Double area n t) cell = any_there area (first_double t + n) (omega (arith, double_fits n cell, double_small t)) ∙ double_found area t n cell
 
 base_small : (area : Area) → base_of area ≤ 8192
@@ -87,6 +101,7 @@ base_small areas.Memory = omega arith
 pub loc_small : (loc : Loc) → IsCell loc → loc_code loc < 16384
 loc_small (Bit area n) lt = omega (arith, lt, base_small area)
 loc_small (Word area n) lt = omega (arith, lt, base_small area)
+loc_small (Pattern area n) lt = omega (arith, lt, base_small area)
 loc_small (Double area n t) cell = omega (arith, double_fits n cell, base_small area, double_small t)
 
 -- a cell with that code
@@ -101,15 +116,24 @@ double_back area t n k loc is e = by_test (begins_double n) refl e
     by_test true f d = subst (IsCellAt k) (same_loc (Double area n t) loc d) (record { cell = f; code = is })
     by_test false f d = absurd cc
 
-doubles_back : (area : Area) (n k : ℕ) (loc : Loc) → base_of area + n ≡ k → double_there area n ≡ Some loc → IsCellAt k loc
-doubles_back area n k loc is e = by_tests (ltb n 1280) (ltb n 1536) (ltb n 1792) refl refl refl e
+pattern_back : (area : Area) (n k : ℕ) (loc : Loc) → base_of area + (2304 + n) ≡ k → pattern_loc area n ≡ Some loc → IsCellAt k loc
+pattern_back area n k loc is e = by_test (ltb n 64) refl e
   where
-    by_tests : (p q r : Bool) → ltb n 1280 ≡ p → ltb n 1536 ≡ q → ltb n 1792 ≡ r
-        → cond p None (cond q (double_loc area doubles.Dint (n - 1280)) (cond r (double_loc area doubles.Time (n - 1536)) (double_loc area doubles.Real (n - 1792)))) ≡ Some loc → IsCellAt k loc
-    by_tests true q r f g h d = absurd cc
-    by_tests false true r f g h d = let above = ltb-false n 1280 f in double_back area doubles.Dint (n - 1280) k loc (omega (arith, is)) d
-    by_tests false false true f g h d = let above = ltb-false n 1536 g in double_back area doubles.Time (n - 1536) k loc (omega (arith, is)) d
-    by_tests false false false f g h d = let above = ltb-false n 1792 h in double_back area doubles.Real (n - 1792) k loc (omega (arith, is)) d
+    by_test : (p : Bool) → ltb n 64 ≡ p → cond p (Some (Pattern area n)) None ≡ Some loc → IsCellAt k loc
+    by_test true f d = subst (IsCellAt k) (same_loc (Pattern area n) loc d) (record { cell = ltb-true n 64 f; code = is })
+    by_test false f d = absurd cc
+
+doubles_back : (area : Area) (n k : ℕ) (loc : Loc) → base_of area + n ≡ k → double_there area n ≡ Some loc → IsCellAt k loc
+doubles_back area n k loc is e = by_tests (ltb n 1280) (ltb n 1536) (ltb n 1792) (ltb n 2048) (ltb n 2304) refl refl refl refl refl e
+  where
+    by_tests : (p q r s t : Bool) → ltb n 1280 ≡ p → ltb n 1536 ≡ q → ltb n 1792 ≡ r → ltb n 2048 ≡ s → ltb n 2304 ≡ t
+        → cond p None (cond q (double_loc area doubles.Dint (n - 1280)) (cond r (double_loc area doubles.Time (n - 1536)) (cond s (double_loc area doubles.Real (n - 1792)) (cond t (double_loc area doubles.Dword (n - 2048)) (pattern_loc area (n - 2304)))))) ≡ Some loc → IsCellAt k loc
+    by_tests true q r s t f g h i j d = absurd cc
+    by_tests false true r s t f g h i j d = let above = ltb-false n 1280 f in double_back area doubles.Dint (n - 1280) k loc (omega (arith, is)) d
+    by_tests false false true s t f g h i j d = let above = ltb-false n 1536 g in double_back area doubles.Time (n - 1536) k loc (omega (arith, is)) d
+    by_tests false false false true t f g h i j d = let above = ltb-false n 1792 h in double_back area doubles.Real (n - 1792) k loc (omega (arith, is)) d
+    by_tests false false false false true f g h i j d = let above = ltb-false n 2048 i in double_back area doubles.Dword (n - 2048) k loc (omega (arith, is)) d
+    by_tests false false false false false f g h i j d = let above = ltb-false n 2304 j in pattern_back area (n - 2304) k loc (omega (arith, is)) d
 
 area_back : (area : Area) (n k : ℕ) (loc : Loc) → base_of area + n ≡ k → area_loc area n ≡ Some loc → IsCellAt k loc
 area_back area n k loc is e = by_tests (ltb n 512) (ltb n 1024) (ltb n 1088) refl refl refl e

@@ -1,6 +1,6 @@
 -- A table that has each constant's number, and one more.
 use Rattle.std.proofs.Common.{◌≡◌, ℕ, ◌<◌, Bool, true, false, cond, List, [], ◌∷◌, ◌++◌, length, Option, Some, None, refl, sym, ap, ◌∙◌, arith}
-use Rattle.std.specs.Prelude.{ℤ, pos, is_some, IfSome, ◌^◌}
+use Rattle.std.specs.Prelude.{ℤ, pos, nat_abs, is_some, IfSome, ◌^◌}
 use Rattle.std.specs.List.{position}
 use Rattle.std.specs.Ordering.{nat_cmp, int_cmp, ordering_then, is_eq}
 use Rattle.std.proofs.lemmas.Cmp.{int_ranked}
@@ -29,6 +29,8 @@ key_same (values.Dint a) (values.Dint b) = number_key a b
 key_same (values.Lint a) (values.Lint b) = number_key a b
 key_same (values.Time a) (values.Time b) = number_key a b
 key_same (values.Real a) (values.Real b) = number_key (pos a.pattern) (pos b.pattern)
+key_same (values.Word a) (values.Word b) = number_key (pos a) (pos b)
+key_same (values.Dword a) (values.Dword b) = number_key (pos a) (pos b)
 key_same _ _ = refl
 
 number_same : (a b : ℤ) → same_number a b ≡ true → a ≡ b
@@ -44,6 +46,8 @@ value_same (values.Dint a) (values.Dint b) e = ap values.Dint (number_same a b e
 value_same (values.Lint a) (values.Lint b) e = ap values.Lint (number_same a b e)
 value_same (values.Time a) (values.Time b) e = ap values.Time (number_same a b e)
 value_same (values.Real a) (values.Real b) e = real_same a b (number_same (pos a.pattern) (pos b.pattern) e)
+value_same (values.Word a) (values.Word b) e = ap (λ (z : ℤ). values.Word (nat_abs z)) (number_same (pos a) (pos b) e)
+value_same (values.Dword a) (values.Dword b) e = ap (λ (z : ℤ). values.Dword (nat_abs z)) (number_same (pos a) (pos b) e)
 value_same _ _ e = absurd cc
 
 -- ---- a constant behind the others

@@ -35,6 +35,7 @@ use Rattle.il_model.specs.Settled.{wanted_type, settled_number, settled_as, sett
 use Rattle.il_model.proofs.TypedLines.{bind_ok, ok_before}
 use Rattle.il_model.proofs.Judged.{arrives, faultless}
 use Rattle.il_model.proofs.RealValues.{real_is, real_again, bare_made}
+use Rattle.il_model.proofs.BitValues.{bits_are, bits_again}
 use Rattle.il_model.proofs.Lawful.{lawful_image}
 use Rattle.il_model.proofs.SettledPrograms.{typed_plain, typed_program}
 
@@ -58,6 +59,8 @@ made_again types.Dint z v e = let k = keeps (is_within 2147483648 z) (values.Din
 made_again types.Lint z v e = let k = keeps (is_within 9223372036854775808 z) (values.Lint z) v e in subst (λ (w : Value). typed_value (ty_of w) (number_of w) ≡ Some w) k.1 (rw k.0 refl)
 made_again types.Time z v e = let k = keeps (is_within 2147483648 z) (values.Time z) v e in subst (λ (w : Value). typed_value (ty_of w) (number_of w) ≡ Some w) k.1 (rw k.0 refl)
 made_again types.Real z v e = let m = real_is z v e in subst (λ (w : Value). typed_value (ty_of w) (number_of w) ≡ Some w) m.1 (real_again m.0)
+made_again types.Word z v e = let m = bits_are 65536 values.Word z v e in subst (λ (w : Value). typed_value (ty_of w) (number_of w) ≡ Some w) m.is (bits_again 65536 values.Word m.pattern m.small)
+made_again types.Dword z v e = let m = bits_are 4294967296 values.Dword z v e in subst (λ (w : Value). typed_value (ty_of w) (number_of w) ≡ Some w) m.is (bits_again 4294967296 values.Dword m.pattern m.small)
 
 by_type : (wanted : Option Ty) (z : ℤ) (v : Value) → option_and_then (λ t. bare_value t z) wanted ≡ Some v → typed_value (ty_of v) (number_of v) ≡ Some v
 by_type None z v e = absurd cc

@@ -30,7 +30,8 @@ use Rattle.il_model.specs.Kinds.{field_type}
 use Rattle.il_model.specs.Operators.{joined_type}
 use Rattle.il_model.specs.Codes.{is_jump, is_call}
 use Rattle.il_model.specs.Resolved.{source_of, target_of, called_kind}
-use Rattle.il_model.specs.Row.{row, same_type, is_bool, negatable, load_row, store_row, set_row, truth_row, leave_row, jump_row, call_row, close_row, closes_to, convert_row, opened_row, opens_with, combine_row, sets_to, function_row}
+use Rattle.il_model.specs.Values.{is_bit_string}
+use Rattle.il_model.specs.Row.{row, same_type, is_bool, negatable, load_row, store_row, set_row, not_row, truth_row, leave_row, jump_row, call_row, close_row, closes_to, convert_row, opened_row, opens_with, combine_row, sets_to, function_row}
 use Rattle.il_model.specs.declared.function.Function.{Function}
 use Rattle.il_model.specs.Functions.{function_type}
 use Rattle.il_model.specs.Typing.{Shape, kind_field, shape_on_arrival}
@@ -255,9 +256,9 @@ set_told within room (Some x) held n c b (kinds.Typed t false) = refl
 set_told within room None held n c b _ = refl
 set_told within room (Some x) held n c b _ = refl
 
-truth_told : (within room : Bool) (cr : Option Ty) (held : Option Held) (n c b : Bool) (kind : OperandKind) → fault_of (truth_row cr) ≡ first_found (row_has within room cr held ops.Not (letters n c b) kind)
-truth_told within room None held n c b kind = refl
-truth_told within room (Some x) held n c b kind = unless (is_bool x) (Sets (Some x))
+not_told : (within room : Bool) (cr : Option Ty) (held : Option Held) (n c b : Bool) (kind : OperandKind) → fault_of (not_row cr) ≡ first_found (row_has within room cr held ops.Not (letters n c b) kind)
+not_told within room None held n c b kind = refl
+not_told within room (Some x) held n c b kind = unless (is_bit_string x) (Sets (Some x))
 
 jump_told : (within room : Bool) (cr : Option Ty) (held : Option Held) (n c b : Bool) (kind : OperandKind) → fault_of (cond within (Err Unbalanced) (jump_row cr c kind)) ≡ first_found (row_has within room cr held ops.Jmp (letters n c b) kind)
 jump_told true room cr held n c b kind = refl
@@ -352,7 +353,7 @@ row_told cr held depth ops.Ld n c b kind = load_told (nat_lt 0 depth) (nat_lt de
 row_told cr held depth ops.St n c b kind = store_told (nat_lt 0 depth) (nat_lt depth 16) cr held n c b kind
 row_told cr held depth ops.S n c b kind = set_told (nat_lt 0 depth) (nat_lt depth 16) cr held n c b kind
 row_told cr held depth ops.R n c b kind = set_told (nat_lt 0 depth) (nat_lt depth 16) cr held n c b kind
-row_told cr held depth ops.Not n c b kind = truth_told (nat_lt 0 depth) (nat_lt depth 16) cr held n c b kind
+row_told cr held depth ops.Not n c b kind = not_told (nat_lt 0 depth) (nat_lt depth 16) cr held n c b kind
 row_told cr held depth ops.Jmp n c b kind = jump_told (nat_lt 0 depth) (nat_lt depth 16) cr held n c b kind
 row_told cr held depth ops.Cal n c b kind = call_told (nat_lt 0 depth) (nat_lt depth 16) cr held n c b kind
 row_told cr held depth ops.Ret n c b kind = return_told (nat_lt 0 depth) (nat_lt depth 16) cr held n c b kind

@@ -6,7 +6,9 @@ use Rattle.std.proofs.Math.Nat.{mul-le-mul_left}
 use Rattle.std.proofs.lemmas.Bool.{cases_lt, le-ltb, ltb-false}
 use Rattle.il_model.specs.declared.value.Ty.TheVariants as types
 use Rattle.il_model.specs.declared.duration.TimeUnit.{TimeUnit}
-use Rattle.il_model.specs.Values.{is_within}
+use Rattle.il_model.specs.declared.value.Value.{Value}
+use Rattle.il_model.specs.declared.value.Value.TheVariants as values
+use Rattle.il_model.specs.Values.{is_within, bits_made}
 use Rattle.il_model.specs.Words.{spells}
 use Rattle.il_model.specs.Literals.{integer_of, held_integer, PartText, unit_of, unit_len, digits_len, fraction_of}
 use Rattle.il_model.specs.Literals.{plain_part, broken_part, at_unit, at_decimals, begins_dot, behind_number, part_by}
@@ -301,6 +303,29 @@ time_same a b n = elim n.near [
   | inl e ↦ ap (typed_literal types.Time) e
   | inr d ↦ let o = outside (2 ^ 31) (omega arith) d in rw (d.is_one, d.is_other, o.0, o.1) refl
 ]
+
+-- a number past 64 bits is no pattern
+bits_out : (limit : ℕ) (bits : ℕ → Value) (z : ℤ) → limit ≤ 2 ^ 63 → IsOut z → bits_made limit bits z ≡ None
+bits_out limit bits (pos n) low e = rw (le-ltb n limit (let h = ltb-false n (2 ^ 63) e in omega (arith, h, low))) refl
+bits_out limit bits (negsuc n) low e = refl
+
+word_same : (a b : Option ℤ) → NearSigned a b → typed_literal types.Word a ≡ typed_literal types.Word b
+word_same a b n = elim n.near [
+  | inl e ↦ ap (typed_literal types.Word) e
+  | inr d ↦ rw (d.is_one, d.is_other, bits_out (2 ^ 16) values.Word d.one (omega arith) d.one_out, bits_out (2 ^ 16) values.Word d.other (omega arith) d.other_out) refl
+]
+
+double_word_same : (a b : Option ℤ) → NearSigned a b → typed_literal types.Dword a ≡ typed_literal types.Dword b
+double_word_same a b n = elim n.near [
+  | inl e ↦ ap (typed_literal types.Dword) e
+  | inr d ↦ rw (d.is_one, d.is_other, bits_out (2 ^ 32) values.Dword d.one (omega arith) d.one_out, bits_out (2 ^ 32) values.Dword d.other (omega arith) d.other_out) refl
+]
+
+pub word_whole : (bytes : List ℕ) → typed_literal types.Word (whole_by held_integer bytes) ≡ typed_literal types.Word (whole_by integer_of bytes)
+word_whole bytes = word_same _ _ (whole_is bytes)
+
+pub double_word_whole : (bytes : List ℕ) → typed_literal types.Dword (whole_by held_integer bytes) ≡ typed_literal types.Dword (whole_by integer_of bytes)
+double_word_whole bytes = double_word_same _ _ (whole_is bytes)
 
 bare_same : (a b : Option ℤ) → NearSigned a b → option_and_then bare_literal a ≡ option_and_then bare_literal b
 bare_same a b n = elim n.near [

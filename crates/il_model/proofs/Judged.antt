@@ -37,12 +37,13 @@ use Rattle.il_model.specs.Kinds.{kind_fields, field_type, is_input}
 use Rattle.il_model.specs.Words.{same_name, AreDistinct}
 use Rattle.il_model.specs.Operators.{joined_type}
 use Rattle.il_model.specs.Resolved.{source_of, target_of, place_of, field_of, instance_number, is_labelled, called_kind}
-use Rattle.il_model.specs.Row.{row, same_type, is_bool, negatable, load_row, store_row, set_row, truth_row, leave_row, jump_row, call_row, close_row, closes_to, convert_row, open_row, opened_row, opens_with, combine_row, sets_to, outside, function_row}
+use Rattle.il_model.specs.Values.{is_bit_string}
+use Rattle.il_model.specs.Row.{row, same_type, is_bool, negatable, load_row, store_row, set_row, truth_row, not_row, leave_row, jump_row, call_row, close_row, closes_to, convert_row, open_row, opened_row, opens_with, combine_row, sets_to, outside, function_row}
 use Rattle.il_model.specs.Typing as Typing
 use Rattle.il_model.specs.declared.function.Function.{Function}
 use Rattle.il_model.specs.Typing.{Shape, place_type, is_writable, source_type, HasType, MayStore, Leaves, Converts, Applies, Begins, Operates, Takes, Passes, kind_field, IsPassed, ArePassed, MayStand, Leads, shape_on_arrival, Arrives, IsTyped}
 use Rattle.il_model.specs.Checking.{◌>>=◌, source_kind, typed_kind, operand_kind, missing_kind, top_of, source_row, unless_same, passing_fault, goes_so, field_fault, first_fault, argument_fault, arguments_fault, with_fault, line_row, label_at, label_row, shape_after, after_line, after_at, shape_at, typing_end, HasNoTypeFault}
-use Rattle.il_model.proofs.RowTypes.{guarded, typed_kind_is, load_typed, same_type_is, store_typed, set_typed, truth_typed_row, combine_typed, no_close, opened_typed, closes_typed, convert_typed, call_typed, function_typed}
+use Rattle.il_model.proofs.RowTypes.{guarded, typed_kind_is, load_typed, same_type_is, store_typed, set_typed, truth_typed_row, combine_typed, no_close, opened_typed, closes_typed, convert_typed, call_typed, function_typed, not_typed_row}
 use Rattle.il_model.proofs.TypedLines.{bind_ok, ok_is, get_line, numbered_ok, no_depth, outside_ok, sourced, fault_none, first_none, IsArgumentOf, argument_typed, arguments_typed, no_arguments, is_among}
 use Rattle.il_model.proofs.Loop.{goes_at}
 
@@ -148,18 +149,13 @@ kind_instance Q (sources.Instance i) e = (i, refl)
 
 -- ---- letters
 
-allows_n : (n : Bool) (t : Ty) → negatable n t ≡ true → n ≡ true → t ≡ types.Bool
-allows_n n types.Bool h e = refl
-allows_n true types.Int h e = absurd cc
-allows_n true types.Dint h e = absurd cc
-allows_n true types.Lint h e = absurd cc
-allows_n true types.Time h e = absurd cc
-allows_n true types.Real h e = absurd cc
+allows_n : (n : Bool) (t : Ty) → negatable n t ≡ true → n ≡ true → is_bit_string t ≡ true
+allows_n true t h e = h
 allows_n false t h e = absurd cc
 
-is_negatable : (n : Bool) (t : Ty) → (n ≡ true → t ≡ types.Bool) → negatable n t ≡ true
+is_negatable : (n : Bool) (t : Ty) → (n ≡ true → is_bit_string t ≡ true) → negatable n t ≡ true
 is_negatable false t allows = refl
-is_negatable true t allows = ap is_bool (allows refl)
+is_negatable true t allows = allows refl
 
 same_self : (t : Ty) → same_type t t ≡ true
 same_self types.Bool = refl
@@ -168,6 +164,8 @@ same_self types.Dint = refl
 same_self types.Lint = refl
 same_self types.Time = refl
 same_self types.Real = refl
+same_self types.Word = refl
+same_self types.Dword = refl
 
 -- ---- from a row that has an effect
 
@@ -194,8 +192,8 @@ set_takes Q x src sh e s h =
     let r = set_typed sh.cr (source_kind Q src) e h in
     subst (SetsIt Q x sh) r.2 (r.0, may_store Q x src types.Bool s r.1, refl)
 
-truth_takes : (Q : Program) (m : Modifier) (x : Operand) (sh : Shape) (e : Effect) → truth_row sh.cr ≡ Ok e → TakesIt Q ops.Not m x sh e
-truth_takes Q m x sh e h = let r = truth_typed_row sh.cr e h in subst (TakesIt Q ops.Not m x sh) r.1 (r.0, refl)
+not_takes : (Q : Program) (m : Modifier) (x : Operand) (sh : Shape) (e : Effect) → not_row sh.cr ≡ Ok e → TakesIt Q ops.Not m x sh e
+not_takes Q m x sh e h = let r = not_typed_row sh.cr e h in subst (TakesIt Q ops.Not m x sh) r.3 (r.0, r.1, r.2, refl)
 
 abbrev LeavesBy : Bool → Shape → Effect → Type 0
 LeavesBy c sh e = (sh.kept ≡ []) × (c ≡ true → sh.cr ≡ Some types.Bool) × (shape_after sh e ≡ record sh { cr = cond c sh.cr None })
@@ -300,7 +298,7 @@ row_takes Q ops.Ld m x src sh e s h = load_takes Q m x src sh e s h
 row_takes Q ops.St m x src sh e s h = store_takes Q m x src sh e s h
 row_takes Q ops.S m x src sh e s h = set_takes Q x src sh e s h
 row_takes Q ops.R m x src sh e s h = set_takes Q x src sh e s h
-row_takes Q ops.Not m x src sh e s h = truth_takes Q m x sh e h
+row_takes Q ops.Not m x src sh e s h = not_takes Q m x sh e h
 row_takes Q ops.Jmp m x src sh e s h = jump_takes Q m x src sh e s h
 row_takes Q ops.Cal m x src sh e s h = call_takes Q m x src sh e s h
 row_takes Q ops.Ret m x src sh e s h = return_takes Q m x sh e h
@@ -337,6 +335,11 @@ to_store Q m x src before after s takes =
 to_set : (Q : Program) (x : Operand) (src : Source) (before after : Shape) → source_of Q x ≡ Some src → before.cr ≡ Some types.Bool → MayStore Q x types.Bool → after ≡ before → LeadsTo (set_row before.cr (source_kind Q src)) before after
 to_set Q x src before after s cr may is =
     (Sets (Some types.Bool), ap (λ (o : Option Ty). set_row o (source_kind Q src)) cr ∙ ap (set_row (Some types.Bool)) (store_kind Q x src types.Bool s may), with_cr before after (Some types.Bool) cr is)
+
+to_not : (before after : Shape) (t : Ty) → before.cr ≡ Some t → is_bit_string t ≡ true → after ≡ before → LeadsTo (not_row before.cr) before after
+to_not before after t cr bits is =
+    let yes = cond-true (is_bit_string t) (Ok (Sets (Some t))) (Err TypeMismatch) bits in
+    (Sets (Some t), ap not_row cr ∙ yes, with_cr before after (Some t) cr is)
 
 to_truth : (before after : Shape) → before.cr ≡ Some types.Bool → after ≡ before → LeadsTo (truth_row before.cr) before after
 to_truth before after cr is = (Sets (Some types.Bool), ap truth_row cr, with_cr before after (Some types.Bool) cr is)
@@ -425,7 +428,7 @@ to_row Q ops.Ld m x src before after s t = to_load Q m x src before after s t
 to_row Q ops.St m x src before after s t = to_store Q m x src before after s t
 to_row Q ops.S m x src before after s t = to_set Q x src before after s t.0 t.1 t.2
 to_row Q ops.R m x src before after s t = to_set Q x src before after s t.0 t.1 t.2
-to_row Q ops.Not m x src before after s t = to_truth before after t.0 t.1
+to_row Q ops.Not m x src before after s t = to_not before after t.0 t.1 t.2 t.3
 to_row Q ops.Jmp m x src before after s t = to_jump Q m x src before after s t
 to_row Q ops.Cal m x src before after s t = to_call Q m x src before after s t
 to_row Q ops.Ret m x src before after s t = to_return m before after t

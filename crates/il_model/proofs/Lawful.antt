@@ -1,6 +1,6 @@
 -- A typed program whose parts are lawful each for itself has an image.
 use Rattle.std.proofs.Common.{inl, inr, ◌⊎◌, ◌≡◌, ℕ, suc, ◌+◌, ◌^◌, ◌<◌, ◌≤◌, Bool, true, false, cond, ltb, List, [], ◌∷◌, ◌++◌, length, get_or, Option, Some, None, Ok, refl, sym, ap, subst, ◌∙◌, append_assoc, arith}
-use Rattle.std.specs.Prelude.{ℤ, pos, negsuc, map, slice_get, is_some, not, nat_eq, ◌&&◌, ◌||◌}
+use Rattle.std.specs.Prelude.{ℤ, pos, negsuc, nat_abs, map, slice_get, is_some, not, nat_eq, ◌&&◌, ◌||◌}
 use Rattle.std.specs.List.{position, AllByRecursion}
 use Rattle.std.specs.Option.{option_map, option_and_then}
 use Rattle.std.proofs.lemmas.Bool.{ltb-false, or_left, or_right}
@@ -15,6 +15,7 @@ use Rattle.il_model.specs.declared.value.Value.TheVariants as values
 use Rattle.il_model.specs.declared.op.Op.{Op}
 use Rattle.il_model.specs.declared.op.Op.TheVariants as ops
 use Rattle.il_model.specs.declared.function.Function.TheVariants as functions
+use Rattle.il_model.specs.declared.shift.Shift.TheVariants as shifts
 use Rattle.il_model.specs.declared.op.Modifier.{Modifier}
 use Rattle.il_model.specs.declared.kind.BlockKind.{BlockKind}
 use Rattle.il_model.specs.declared.kind.Field.{Field}
@@ -107,6 +108,16 @@ listed (ops.Apply functions.Sqrt) = refl
 listed (ops.Apply functions.TimeToDint) = refl
 listed (ops.Apply functions.DintToTime) = refl
 listed (ops.Apply functions.Move) = refl
+listed (ops.Apply functions.WordToInt) = refl
+listed (ops.Apply functions.IntToWord) = refl
+listed (ops.Apply functions.DwordToDint) = refl
+listed (ops.Apply functions.DintToDword) = refl
+listed (ops.Apply functions.WordToDword) = refl
+listed (ops.Apply functions.DwordToWord) = refl
+listed (ops.Shift shifts.Left) = refl
+listed (ops.Shift shifts.Right) = refl
+listed (ops.Shift shifts.RotateLeft) = refl
+listed (ops.Shift shifts.RotateRight) = refl
 
 pub op_below : (op : Op) → op_code op < 2 ^ 8
 op_below ops.Empty = omega arith
@@ -153,6 +164,16 @@ op_below (ops.Apply functions.Sqrt) = omega arith
 op_below (ops.Apply functions.TimeToDint) = omega arith
 op_below (ops.Apply functions.DintToTime) = omega arith
 op_below (ops.Apply functions.Move) = omega arith
+op_below (ops.Apply functions.WordToInt) = omega arith
+op_below (ops.Apply functions.IntToWord) = omega arith
+op_below (ops.Apply functions.DwordToDint) = omega arith
+op_below (ops.Apply functions.DintToDword) = omega arith
+op_below (ops.Apply functions.WordToDword) = omega arith
+op_below (ops.Apply functions.DwordToWord) = omega arith
+op_below (ops.Shift shifts.Left) = omega arith
+op_below (ops.Shift shifts.Right) = omega arith
+op_below (ops.Shift shifts.RotateLeft) = omega arith
+op_below (ops.Shift shifts.RotateRight) = omega arith
 
 not_both : (l : LetterSet) (n c o : Bool) → (let m : Modifier = record { negated = n; conditional = c; opens = o } in allows l m ≡ true) → (c && o) ≡ false
 not_both letters.None true true true e = absurd cc
@@ -242,6 +263,7 @@ jump_row ops.LintToDint = refl
 jump_row ops.Min = refl
 jump_row ops.Max = refl
 jump_row (ops.Apply f) = refl
+jump_row (ops.Shift x) = refl
 
 -- CAL alone takes an instance
 call_row : (op : Op) → is_call op ≡ is_instance_form (usage_of op).form
@@ -276,6 +298,7 @@ call_row ops.LintToDint = refl
 call_row ops.Min = refl
 call_row ops.Max = refl
 call_row (ops.Apply f) = refl
+call_row (ops.Shift x) = refl
 
 abbrev is_label : Operand → Bool
 is_label (operands.Label name) = true
@@ -391,6 +414,8 @@ same_value_is (values.Dint a) (values.Dint b) e = ap (λ (x : ℤ). values.Dint 
 same_value_is (values.Time a) (values.Time b) e = ap (λ (x : ℤ). values.Time x) (same_number_is a b e)
 same_value_is (values.Lint a) (values.Lint b) e = ap (λ (x : ℤ). values.Lint x) (same_number_is a b e)
 same_value_is (values.Real a) (values.Real b) e = real_same a b (same_number_is (pos a.pattern) (pos b.pattern) e)
+same_value_is (values.Word a) (values.Word b) e = ap (λ (z : ℤ). values.Word (nat_abs z)) (same_number_is (pos a) (pos b) e)
+same_value_is (values.Dword a) (values.Dword b) e = ap (λ (z : ℤ). values.Dword (nat_abs z)) (same_number_is (pos a) (pos b) e)
 same_value_is _ _ e = absurd cc
 
 pub type_again : (t : Ty) → type_of (type_code t) ≡ Some t
@@ -400,6 +425,8 @@ type_again types.Dint = refl
 type_again types.Time = refl
 type_again types.Lint = refl
 type_again types.Real = refl
+type_again types.Word = refl
+type_again types.Dword = refl
 
 constant_fits : (seen : List Value) (v : Value) → typed_value (ty_of v) (number_of v) ≡ Some v → is_known seen v ≡ false → IsConstant seen v
 constant_fits seen v e new = record { type = type_again (ty_of v); value = again (λ v. not (is_known seen v)) (typed_value (ty_of v) (number_of v)) v e (ap not new) }

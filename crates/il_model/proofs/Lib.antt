@@ -1,4 +1,6 @@
 pub mod RealValues
+pub mod BitValues
+pub mod Shifts
 pub mod OpCodes
 pub mod RowTypes
 pub mod TypedLines
@@ -19,6 +21,7 @@ pub mod FirstFaults
 pub mod FaultyWords
 pub mod Judged
 pub mod WorkedDoubles
+pub mod WorkedBits
 pub mod WorkedTyping
 pub mod SettledPrograms
 pub mod Indexing
@@ -31,3 +34,5 @@ pub mod HeldNumbers
 pub mod ConstantKeys
 pub mod Versions
 pub mod Retained
+pub mod NameParts
+pub mod NameLengths

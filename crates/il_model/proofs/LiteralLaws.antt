@@ -13,6 +13,7 @@ use Rattle.il_model.specs.Values.{ty_of, number_of, is_within, truth_made, typed
 use Rattle.il_model.specs.Words.{spells}
 use Rattle.il_model.specs.Codes.{may_start_with, initial_of}
 use Rattle.il_model.proofs.RealValues.{real_is, real_again}
+use Rattle.il_model.proofs.BitValues.{bits_are, bits_again}
 use Rattle.il_model.specs.declared.dialect.Dialect.{Dialect}
 use Rattle.il_model.specs.declared.dialect.Dialect.TheVariants as dialects
 use Rattle.il_model.specs.Dialects.{literal_in}
@@ -104,10 +105,32 @@ real_good : (o : Option Real) → Good (typed_real o)
 real_good None = record { good = tt }
 real_good (Some r) = record { good = real_again r }
 
+word_typed : (o : Option ℤ) → Good (typed_literal types.Word o)
+word_typed None = record { good = tt }
+word_typed (Some z) = by_value (typed_value types.Word z) refl
+  where
+    by_value : (v : Option Value) → typed_value types.Word z ≡ v → Good (option_map Typed v)
+    by_value None e = record { good = tt }
+    by_value (Some v) e = let m = bits_are (2 ^ 16) values.Word z v e in record { good = subst IsValue m.is (bits_again (2 ^ 16) values.Word m.pattern m.small) }
+
+double_word_typed : (o : Option ℤ) → Good (typed_literal types.Dword o)
+double_word_typed None = record { good = tt }
+double_word_typed (Some z) = by_value (typed_value types.Dword z) refl
+  where
+    by_value : (v : Option Value) → typed_value types.Dword z ≡ v → Good (option_map Typed v)
+    by_value None e = record { good = tt }
+    by_value (Some v) e = let m = bits_are (2 ^ 32) values.Dword z v e in record { good = subst IsValue m.is (bits_again (2 ^ 32) values.Dword m.pattern m.small) }
+
+behind_word : (word rest bytes : List ℕ) → Good (extended_prefixed word rest bytes)
+behind_word word rest bytes =
+    either (spells (codes "REAL") word) (typed_real (real_literal rest)) _ (real_good (real_literal rest))
+    (either (spells (codes "WORD") word) (typed_literal types.Word (whole_by integer_of rest)) _ (word_typed (whole_by integer_of rest))
+    (either (spells (codes "DWORD") word) (typed_literal types.Dword (whole_by integer_of rest)) (literal_of bytes) (double_word_typed (whole_by integer_of rest)) (good_literal bytes)))
+
 pub extended_good : (bytes : List ℕ) → IsInRange (extended_literal_of bytes)
 extended_good bytes =
     (either (ltb (hash_at bytes) (length bytes)) (extended_prefixed (take (hash_at bytes) bytes) (drop (hash_at bytes + 1) bytes) bytes) (extended_plain bytes)
-    (either (spells (codes "REAL") (take (hash_at bytes) bytes)) (typed_real (real_literal (drop (hash_at bytes + 1) bytes))) (literal_of bytes) (real_good (real_literal (drop (hash_at bytes + 1) bytes))) (good_literal bytes))
+    (behind_word (take (hash_at bytes) bytes) (drop (hash_at bytes + 1) bytes) bytes)
     (either (has_point bytes) (typed_real (real_literal bytes)) (literal_of bytes) (real_good (real_literal bytes)) (good_literal bytes))).good
 
 -- ---- initial values
@@ -149,6 +172,8 @@ made_is types.Time z v e =
     let m = some_of (is_within (2 ^ 31) z) (values.Time z) v e in
     subst (IsMade types.Time) m.1 (record { again = rw m.0 refl })
 made_is types.Real z v e = let m = real_is z v e in subst (IsMade types.Real) m.1 (record { again = real_again m.0 })
+made_is types.Word z v e = let m = bits_are (2 ^ 16) values.Word z v e in subst (IsMade types.Word) m.is (record { again = bits_again (2 ^ 16) values.Word m.pattern m.small })
+made_is types.Dword z v e = let m = bits_are (2 ^ 32) values.Dword z v e in subst (IsMade types.Dword) m.is (record { again = bits_again (2 ^ 32) values.Dword m.pattern m.small })
 
 -- an initial value is made again of its number
 pub start_again : (type : Ty) (loc : Option Loc) (z : ℤ) (v : Value) → typed_value type z ≡ Some v → may_start_with loc v ≡ true → initial_of type loc (number_of v) ≡ Some v

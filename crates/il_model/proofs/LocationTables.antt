@@ -11,7 +11,7 @@ use Rattle.il_model.specs.declared.program.Variable.{Variable}
 use Rattle.il_model.specs.declared.program.Area.{Area}
 use Rattle.il_model.specs.declared.program.DoubleType.{DoubleType}
 use Rattle.il_model.specs.declared.program.Loc.{Loc}
-use Rattle.il_model.specs.declared.program.Loc.TheVariants.{Bit, Word, Double}
+use Rattle.il_model.specs.declared.program.Loc.TheVariants.{Bit, Word, Pattern, Double}
 use Rattle.il_model.specs.CodedOperands.{loc_code}
 use Rattle.il_model.specs.Codes.{has_code, is_taken, is_overlapped}
 use Rattle.il_model.specs.Tables.{AreCodes}
@@ -110,3 +110,11 @@ double_told s area k t seen table =
     ap (λ (b : Bool). b || sorted.contains nat_cmp s (loc_code (Word area k) + 1)) (table (loc_code (Word area k)))
     ∙ ap (λ (n : ℕ). is_taken seen (loc_code (Word area k)) || sorted.contains nat_cmp s n) (next_code area k)
     ∙ ap (λ (b : Bool). is_taken seen (loc_code (Word area k)) || b) (table (loc_code (Word area (suc k))) ∙ or_none (is_taken seen (loc_code (Word area (suc k)))))
+
+-- a pattern is its word
+pub put_pattern : (s new : BTreeSet ℕ) (area : Area) (k key : ℕ) → key ≡ loc_code (Word area k) → sorted.UpdatesBy nat_cmp (nat_cmp key) s new true
+    → (n : ℕ) → sorted.contains nat_cmp new n ≡ (has_code n (Some (Pattern area k)) || sorted.contains nat_cmp s n)
+put_pattern s new area k key key-is updates n = put_word s new area k key key-is updates n
+
+pub pattern_told : (s : BTreeSet ℕ) (area : Area) (k : ℕ) (seen : List Variable) → AreCodes seen s → sorted.contains nat_cmp s (loc_code (Word area k)) ≡ is_overlapped seen (Pattern area k)
+pattern_told s area k seen table = word_told s area k seen table

@@ -37,6 +37,8 @@ bare_made types.Dint z v e = e
 bare_made types.Time z v e = e
 bare_made types.Lint z v e = e
 bare_made types.Real z v e = absurd cc
+bare_made types.Word z v e = e
+bare_made types.Dword z v e = e
 
 -- ---- numbers that are too great or too small
 
@@ -61,6 +63,8 @@ typed_low types.Dint (negsuc n) lt = rw (le-ltb n (2 ^ 31) (omega (arith, ints))
 typed_low types.Time (negsuc n) lt = rw (le-ltb n (2 ^ 31) (omega (arith, ints))) refl
 typed_low types.Lint (negsuc n) lt = rw (le-ltb n (2 ^ 63) (omega (arith, ints))) refl
 typed_low types.Real (negsuc n) lt = refl
+typed_low types.Word (negsuc n) lt = refl
+typed_low types.Dword (negsuc n) lt = refl
 
 pub typed_high : (t : Ty) (z : ℤ) → pos 9223372036854775808 ≤ℤ z → typed_value t z ≡ None
 typed_high t (negsuc n) le = absurd (omega (arith, ints))
@@ -70,3 +74,5 @@ typed_high types.Dint (pos n) le = rw (le-ltb n (2 ^ 31) (omega (arith, ints))) 
 typed_high types.Time (pos n) le = rw (le-ltb n (2 ^ 31) (omega (arith, ints))) refl
 typed_high types.Lint (pos n) le = rw (le-ltb n (2 ^ 63) (omega (arith, ints))) refl
 typed_high types.Real (pos n) le = real_high (pos n) (search (arith, ints))
+typed_high types.Word (pos n) le = rw (le-ltb n (2 ^ 16) (omega (arith, ints))) refl
+typed_high types.Dword (pos n) le = rw (le-ltb n (2 ^ 32) (omega (arith, ints))) refl

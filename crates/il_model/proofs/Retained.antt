@@ -3,7 +3,7 @@ use Rattle.std.proofs.Common.{◌≡◌, ℕ, ◌+◌, ◌-◌, ◌<◌, ◌^◌
 use Rattle.std.proofs.lemmas.Bool.{leb-true, le-leb}
 use Rattle.il_model.specs.declared.codes.Version.{Version}
 use Rattle.il_model.specs.Image.{may_retain, declared_code}
-use Rattle.il_model.specs.Codes.{says_retained, retained_in, plain_code}
+use Rattle.il_model.specs.Codes.{is_retained_code, retained_in, plain_code}
 use Rattle.il_model.proofs.Versions.{passed}
 
 below : (b : Bool) (n : ℕ) → leb 128 n ≡ b → n < 128 → b ≡ false
@@ -13,7 +13,7 @@ below false n e small = refl
 above : (n : ℕ) → leb 128 (128 + n) ≡ true
 above n = le-leb 128 (128 + n) (omega arith)
 
-pub says_again : (r : Bool) (n : ℕ) → n < 128 → says_retained (declared_code r n) ≡ r
+pub says_again : (r : Bool) (n : ℕ) → n < 128 → is_retained_code (declared_code r n) ≡ r
 says_again true n small = above n
 says_again false n small = below (leb 128 (0 + n)) (0 + n) refl (omega (arith, small))
 
@@ -35,6 +35,6 @@ code_by false n e = omega arith
 -- what was read of a code
 pub code_is : (version : Version) (n : ℕ) (r : Bool) → retained_in version n ≡ Some r → declared_code r (plain_code n) ≡ n
 code_is version n r e =
-    let is = passed (may_retain version) (Some (says_retained n)) r e in
-    let same : says_retained n ≡ r = cc in
+    let is = passed (may_retain version) (Some (is_retained_code n)) r e in
+    let same : is_retained_code n ≡ r = cc in
     ap (λ (b : Bool). declared_code b (plain_code n)) (sym same) ∙ code_by (leb 128 n) n refl

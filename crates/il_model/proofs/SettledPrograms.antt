@@ -36,6 +36,7 @@ use Rattle.il_model.specs.Kinds.{any_field, field_type}
 use Rattle.il_model.specs.Constants.{operand_literal}
 use Rattle.il_model.specs.Row.{row}
 use Rattle.il_model.proofs.RealValues.{real_is, bare_made}
+use Rattle.il_model.proofs.BitValues.{bits_are}
 use Rattle.il_model.proofs.RowTypes.{some_yes}
 use Rattle.il_model.proofs.TypedLines.{bind_ok, ok_before, typed_line, sourced, fault_none, IsArgumentOf, arguments_typed, no_arguments, is_among}
 use Rattle.il_model.proofs.ArgumentFaults.{literal_by}
@@ -358,6 +359,8 @@ made_number types.Dint z v e = sym (ap number_of (some_yes (is_within (2 ^ 31) z
 made_number types.Lint z v e = sym (ap number_of (some_yes (is_within (2 ^ 63) z) (values.Lint z) v e).1)
 made_number types.Time z v e = sym (ap number_of (some_yes (is_within (2 ^ 31) z) (values.Time z) v e).1)
 made_number types.Real z v e = let m = real_is z v e in sym (ap number_of m.1) ∙ m.2
+made_number types.Word z v e = let m = bits_are (2 ^ 16) values.Word z v e in sym (ap number_of m.is) ∙ m.number
+made_number types.Dword z v e = let m = bits_are (2 ^ 32) values.Dword z v e in sym (ap number_of m.is) ∙ m.number
 
 wanted_number : (w : Option Ty) (z : ℤ) (v : Value) → option_and_then (λ (t : Ty). bare_value t z) w ≡ Some v → number_of v ≡ z
 wanted_number (Some t) z v e = made_number t z v (bare_made t z v e)

@@ -18,7 +18,7 @@ use Rattle.il_model.specs.declared.program.Variable.{Variable}
 use Rattle.il_model.specs.declared.program.Instance.{Instance}
 use Rattle.il_model.specs.declared.program.Instr.{Instr}
 use Rattle.il_model.specs.Values.{ty_of, number_of, is_within, truth_made, typed_value}
-use Rattle.il_model.specs.Image.{type_code, op_code, version_number, number_width, type_version, value_version, op_version, may_have, may_lie, may_declare, may_instantiate, may_keep, may_name, may_write, suffices, version_with}
+use Rattle.il_model.specs.Image.{type_code, op_code, version_number, number_width, type_version, value_version, op_version, may_have, may_lie, may_call, may_label, may_declare, may_instantiate, may_keep, may_name, may_write, suffices, version_with}
 use Rattle.il_model.specs.Constants.{operands_in}
 use Rattle.il_model.specs.Codes.{if_passes, may_start_with, type_of, type_in, op_of, op_in, version_numbered, initial_of, is_known}
 use Rattle.il_model.specs.Codes.{coded_location, coded_location_in, word_operand, word_operand_in, argument_operand, argument_operand_in}
@@ -33,6 +33,7 @@ use Rattle.il_model.proofs.LiteralLaws.{IsValue}
 use Rattle.il_model.proofs.Lawful.{listed, type_again}
 use Rattle.il_model.proofs.SettledPrograms.{made_number}
 use Rattle.il_model.proofs.RealValues.{real_is}
+use Rattle.il_model.proofs.BitValues.{bits_are, bits_small}
 use Rattle.il_model.proofs.RowTypes.{and_yes}
 use Rattle.il_real.proofs.Values.{real_small}
 
@@ -72,6 +73,8 @@ long_kept (values.Dint z) is = long_number z (wider (2 ^ 31) (2 ^ 63) z (omega a
 long_kept (values.Time z) is = long_number z (wider (2 ^ 31) (2 ^ 63) z (omega arith) (within_by (is_within (2 ^ 31) z) (values.Time z) (values.Time z) is))
 long_kept (values.Lint z) is = long_number z (within_by (is_within (2 ^ 63) z) (values.Lint z) (values.Lint z) is)
 long_kept (values.Real r) is = long_number (pos r.pattern) (lt-ltb r.pattern (2 ^ 63) (omega (arith, real_small r)))
+long_kept (values.Word n) is = let lt = bits_small (2 ^ 16) values.Word n (values.Word n) is in long_number (pos n) (lt-ltb n (2 ^ 63) (omega (arith, lt)))
+long_kept (values.Dword n) is = let lt = bits_small (2 ^ 32) values.Dword n (values.Dword n) is in long_number (pos n) (lt-ltb n (2 ^ 63) (omega (arith, lt)))
 
 short_kept : (v : Value) → IsValue v → may_have versions.One (value_version v) ≡ true → IsKept versions.One (number_of v)
 short_kept (values.Bool true) is e = short_number (pos 1) refl
@@ -81,6 +84,8 @@ short_kept (values.Dint z) is e = short_number z (within_by (is_within (2 ^ 31) 
 short_kept (values.Time z) is e = short_number z (within_by (is_within (2 ^ 31) z) (values.Time z) (values.Time z) is)
 short_kept (values.Lint z) is e = absurd cc
 short_kept (values.Real r) is e = absurd cc
+short_kept (values.Word n) is e = absurd cc
+short_kept (values.Dword n) is e = absurd cc
 
 -- a value that this version may have
 pub number_back : (version : Version) (v : Value) → IsValue v → may_keep version v ≡ true → IsKept version (number_of v)
@@ -110,6 +115,8 @@ made_type types.Dint z v e = sym (ap ty_of (made_by (is_within (2 ^ 31) z) (valu
 made_type types.Time z v e = sym (ap ty_of (made_by (is_within (2 ^ 31) z) (values.Time z) v e))
 made_type types.Lint z v e = sym (ap ty_of (made_by (is_within (2 ^ 63) z) (values.Lint z) v e))
 made_type types.Real z v e = sym (ap ty_of (real_is z v e).1)
+made_type types.Word z v e = sym (ap ty_of (bits_are (2 ^ 16) values.Word z v e).is)
+made_type types.Dword z v e = sym (ap ty_of (bits_are (2 ^ 32) values.Dword z v e).is)
 
 pub made_value : (t : Ty) (z : ℤ) (v : Value) → typed_value t z ≡ Some v → IsValue v
 made_value t z v e = rw (made_type t z v e, made_number t z v e) e
@@ -131,10 +138,14 @@ all_yes : {A : Type 0} (may : A → Bool) → ((x : A) → may x ≡ true) → (
 all_yes may each [] = refl
 all_yes may each (x ∷ xs) = rw (each x) (all_yes may each xs)
 
+label_three : (o : Option (List ℕ)) → may_label versions.Three o ≡ true
+label_three None = refl
+label_three (Some name) = refl
+
 -- the third version may have everything
 three_suffices : (variables : List Variable) (instances : List Instance) (constants : List Value) (code : List Instr) → suffices versions.Three variables instances constants code ≡ true
 three_suffices variables instances constants code =
-    rw (all_yes (may_declare versions.Three) (λ v. refl) variables, all_yes (may_instantiate versions.Three) (λ x. refl) instances, all_yes (may_keep versions.Three) (λ v. refl) constants) (all_yes (may_write versions.Three) (λ line. all_yes (may_name versions.Three) (λ x. refl) (operands_in line)) code)
+    rw (all_yes (may_declare versions.Three) (λ v. refl) variables, all_yes (may_instantiate versions.Three) (λ x. refl) instances, all_yes (may_keep versions.Three) (λ v. refl) constants) (all_yes (may_write versions.Three) (λ line. rw (label_three line.label) (all_yes (may_name versions.Three) (λ x. refl) (operands_in line))) code)
 
 first_suffices : (variables : List Variable) (instances : List Instance) (constants : List Value) (code : List Instr) (a b : Bool) → suffices versions.One variables instances constants code ≡ a → suffices versions.Two variables instances constants code ≡ b
     → let version : Version = cond a versions.One (cond b versions.Two versions.Three) in suffices version variables instances constants code ≡ true
@@ -164,7 +175,7 @@ items_may IsItem may seen (x ∷ xs) are e = let m = and_yes (may x) (list_all m
 pub variable_kept : (version : Version) (seen : List Variable) (v : Variable) → IsVariable seen v → may_declare version v ≡ true → IsKept version (number_of v.initial)
 variable_kept version seen v is may =
     let made = initial_made v.ty v.location (number_of v.initial) v.initial is.initial in
-    number_back version v.initial (made_value v.ty (number_of v.initial) v.initial made) (and_yes (may_have version (value_version v.initial)) _ (and_yes (may_have version (type_version v.ty)) _ may).1).0
+    number_back version v.initial (made_value v.ty (number_of v.initial) v.initial made) (and_yes (may_have version (value_version v.initial)) _ (and_yes (may_have version (type_version v.ty)) _ (and_yes (may_call version v.name) _ may).1).1).0
 
 pub constant_kept : (version : Version) (seen : List Value) (v : Value) → IsConstant seen v → may_keep version v ≡ true → IsKept version (number_of v)
 constant_kept version seen v is may = number_back version v (passed (λ x. not (is_known seen x)) (typed_value (ty_of v) (number_of v)) v is.value).0 may

@@ -102,8 +102,8 @@ none_of_an_odd_code = refl
 none_past_the_last : any_loc 0x540 ≡ None
 none_past_the_last = refl
 
-none_of_next : any_loc 0x800 ≡ None
-none_of_next = refl
+none_behind_reals : any_loc 0x740 ≡ None
+none_behind_reals = refl
 
 none_behind_words : any_loc 0x440 ≡ None
 none_behind_words = refl
@@ -169,6 +169,6 @@ no_number : double_value doubles.Real (pos 32704) (pos 1) ≡ values.Real zero_r
 unfolding with_pattern of_bits float_is_finite eq is_sign_negative
 no_number = refl
 
-minus_zero : double_value doubles.Real (negsuc 32767) (pos 0) ≡ values.Real zero_real
+pub minus_zero : double_value doubles.Real (negsuc 32767) (pos 0) ≡ values.Real zero_real
 unfolding with_pattern of_bits float_is_finite eq is_sign_negative
 minus_zero = refl

@@ -3,7 +3,7 @@ use Rattle.std.proofs.Common.{◌≡◌, ℕ, ◌+◌, ◌*◌, ◌<◌, Bool, t
 use Rattle.std.proofs.lemmas.Bool.{ltb-true}
 use Rattle.il_model.specs.declared.program.Area.{Area}
 use Rattle.il_model.specs.declared.program.Loc.{Loc}
-use Rattle.il_model.specs.declared.program.Loc.TheVariants.{Bit, Word, Double}
+use Rattle.il_model.specs.declared.program.Loc.TheVariants.{Bit, Word, Pattern, Double}
 use Rattle.il_model.specs.declared.program.DoubleType.{DoubleType}
 use Rattle.il_model.specs.declared.program.DoubleType.TheVariants as doubles
 use Rattle.il_model.specs.declared.value.Ty.{Ty}
@@ -14,7 +14,7 @@ use Rattle.il_model.specs.Words.{upper}
 use Rattle.il_model.specs.Literals.{integer_of}
 use Rattle.il_model.specs.CodedOperands.{IsCell}
 use Rattle.il_model.specs.Locations.{bit_of, word_of, letter_area, bit_at, word_at, place_at, place_in, dot_at, location_of}
-use Rattle.il_model.specs.Locations.{begins_double, double_of, double_at, double_in, double_location_of, or_double, is_nameable, double_as, seen_as, parts_of, area_of}
+use Rattle.il_model.specs.Locations.{begins_double, double_of, double_at, double_in, double_location_of, or_double, is_nameable, double_as, word_as, seen_as, parts_of, area_of}
 use Rattle.il_model.specs.Typing.{loc_type}
 use Rattle.il_model.specs.Doubles.{double_type}
 use Rattle.il_model.specs.Codes.{is_type}
@@ -117,38 +117,85 @@ location_named dialects.Extended text loc e = either_location text (location_of 
 
 -- ---- as that of a variable: it stays where it is
 
+word_cell_seen : (type : Ty) (a : Area) (n : ℕ) → n < 64 → IsCell (word_as type a n)
+word_cell_seen types.Word a n lt = lt
+word_cell_seen _ a n lt = lt
+
 pub cell_seen : (type : Ty) (loc : Loc) → IsCell loc → IsCell (seen_as type loc)
 cell_seen type (Bit a n) cell = cell
-cell_seen type (Word a n) cell = cell
+cell_seen type (Word a n) cell = word_cell_seen type a n cell
+cell_seen type (Pattern a n) cell = cell
 cell_seen type (Double a n t) cell = cell
+
+word_parts_seen : (type : Ty) (a : Area) (n : ℕ) → parts_of (word_as type a n) ≡ Word a n ∷ []
+word_parts_seen types.Word a n = refl
+word_parts_seen _ a n = refl
 
 pub parts_seen : (type : Ty) (loc : Loc) → parts_of (seen_as type loc) ≡ parts_of loc
 parts_seen type (Bit a n) = refl
-parts_seen type (Word a n) = refl
+parts_seen type (Word a n) = word_parts_seen type a n
+parts_seen type (Pattern a n) = refl
 parts_seen type (Double a n t) = refl
+
+word_area_seen : (type : Ty) (a : Area) (n : ℕ) → area_of (word_as type a n) ≡ a
+word_area_seen types.Word a n = refl
+word_area_seen _ a n = refl
 
 pub area_seen : (type : Ty) (loc : Loc) → area_of (seen_as type loc) ≡ area_of loc
 area_seen type (Bit a n) = refl
-area_seen type (Word a n) = refl
+area_seen type (Word a n) = word_area_seen type a n
+area_seen type (Pattern a n) = refl
 area_seen type (Double a n t) = refl
 
+-- the location as a text has it: a word or a double word of no type of its own
+abbrev pub text_loc : Loc → Loc
+text_loc (Pattern a n) = Word a n
+text_loc (Double a n t) = Double a n doubles.Dint
+text_loc loc = loc
+
+pub parts_in_text : (loc : Loc) → parts_of (text_loc loc) ≡ parts_of loc
+parts_in_text (Bit a n) = refl
+parts_in_text (Word a n) = refl
+parts_in_text (Pattern a n) = refl
+parts_in_text (Double a n t) = refl
+
+pub area_in_text : (loc : Loc) → area_of (text_loc loc) ≡ area_of loc
+area_in_text (Bit a n) = refl
+area_in_text (Word a n) = refl
+area_in_text (Pattern a n) = refl
+area_in_text (Double a n t) = refl
+
 -- what an instruction can name is as a text has it
-pub named_seen : (loc : Loc) → is_nameable loc ≡ true → seen_as types.Dint loc ≡ loc
+pub named_seen : (loc : Loc) → is_nameable loc ≡ true → text_loc loc ≡ loc
 named_seen (Bit a n) e = refl
 named_seen (Word a n) e = refl
+named_seen (Pattern a n) e = absurd cc
 named_seen (Double a n doubles.Dint) e = refl
 named_seen (Double a n doubles.Time) e = absurd cc
 named_seen (Double a n doubles.Real) e = absurd cc
+named_seen (Double a n doubles.Dword) e = absurd cc
 
 own_again : (t : DoubleType) → double_as (double_type t) doubles.Dint ≡ t
 own_again doubles.Dint = refl
 own_again doubles.Time = refl
 own_again doubles.Real = refl
+own_again doubles.Dword = refl
 
--- of a text's double word, a variable of the type makes its own
-pub seen_again : (type : Ty) (loc : Loc) → is_type type (loc_type loc) ≡ true → seen_as type (seen_as types.Dint loc) ≡ loc
+word_again : (type : Ty) (a : Area) (n : ℕ) (b : Bool) → is_type type (cond b (Some types.Int) None) ≡ true → word_as type a n ≡ Word a n
+word_again types.Int a n true e = refl
+word_again types.Word a n true e = absurd cc
+word_again _ a n true e = refl
+word_again type a n false e = absurd cc
+
+pattern_again : (type : Ty) (a : Area) (n : ℕ) (b : Bool) → is_type type (cond b (Some types.Word) None) ≡ true → word_as type a n ≡ Pattern a n
+pattern_again type a n true e = ap (λ (u : Ty). word_as u a n) (same_type_is type types.Word e)
+pattern_again type a n false e = absurd cc
+
+-- of a text's word or double word, a variable of the type makes its own
+pub seen_again : (type : Ty) (loc : Loc) → is_type type (loc_type loc) ≡ true → seen_as type (text_loc loc) ≡ loc
 seen_again type (Bit a n) e = refl
-seen_again type (Word a n) e = refl
+seen_again type (Word a n) e = word_again type a n (ltb n 64) e
+seen_again type (Pattern a n) e = pattern_again type a n (ltb n 64) e
 seen_again type (Double a n t) e = by_test (begins_double n) e
   where
     by_test : (b : Bool) → is_type type (cond b (Some (double_type t)) None) ≡ true → Double a n (double_as type doubles.Dint) ≡ Double a n t

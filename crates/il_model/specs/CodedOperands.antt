@@ -6,7 +6,7 @@ use Rattle.il_model.specs.declared.limits.TheConstants.{BITS, WORDS}
 use Rattle.il_model.specs.declared.program.Area.{Area}
 use Rattle.il_model.specs.declared.program.Area.TheVariants as areas
 use Rattle.il_model.specs.declared.program.Loc.{Loc}
-use Rattle.il_model.specs.declared.program.Loc.TheVariants.{Bit, Word, Double}
+use Rattle.il_model.specs.declared.program.Loc.TheVariants.{Bit, Word, Pattern, Double}
 use Rattle.il_model.specs.declared.program.DoubleType.{DoubleType}
 use Rattle.il_model.specs.declared.program.DoubleType.TheVariants as doubles
 use Rattle.il_model.specs.declared.coded_operand.CodedOperand.{CodedOperand}
@@ -30,30 +30,42 @@ abbrev pub first_double : DoubleType → ℕ
 first_double doubles.Dint = 0x500
 first_double doubles.Time = 0x600
 first_double doubles.Real = 0x700
+first_double doubles.Dword = 0x800
+
+-- where its words that are patterns begin, behind those
+abbrev pub first_pattern : ℕ
+first_pattern = 0x900
 
 abbrev pub loc_code : Loc → ℕ
 loc_code (Bit a n) = base_of a + n
 loc_code (Word a n) = base_of a + (first_word + n)
+loc_code (Pattern a n) = base_of a + (first_pattern + n)
 loc_code (Double a n t) = base_of a + (first_double t + n)
 
 -- an area has so many bits and words, and a double word at each word with an even number
 abbrev pub IsCell : Loc → Type 0
 IsCell (Bit a n) = n < BITS
 IsCell (Word a n) = n < WORDS
+IsCell (Pattern a n) = n < WORDS
 IsCell (Double a n t) = begins_double n ≡ true
 
 abbrev pub double_loc : Area → DoubleType → ℕ → Option Loc
 double_loc area t n = if begins_double n then Some (Double area n t) else None
 
--- the double word of an area that stands so far behind its beginning
+abbrev pub pattern_loc : Area → ℕ → Option Loc
+pattern_loc area n = if nat_lt n WORDS then Some (Pattern area n) else None
+
+-- the double word or the pattern of an area that stands so far behind its beginning
 abbrev pub double_there : Area → ℕ → Option Loc
 double_there area n =
     if nat_lt n (first_double doubles.Dint) then None
     else if nat_lt n (first_double doubles.Time) then double_loc area doubles.Dint (n - first_double doubles.Dint)
     else if nat_lt n (first_double doubles.Real) then double_loc area doubles.Time (n - first_double doubles.Time)
-    else double_loc area doubles.Real (n - first_double doubles.Real)
+    else if nat_lt n (first_double doubles.Dword) then double_loc area doubles.Real (n - first_double doubles.Real)
+    else if nat_lt n first_pattern then double_loc area doubles.Dword (n - first_double doubles.Dword)
+    else pattern_loc area (n - first_pattern)
 
--- the bit, the word or the double word of an area that stands so far behind its beginning
+-- the location of an area that stands so far behind its beginning
 abbrev pub area_loc : Area → ℕ → Option Loc
 area_loc area n =
     if nat_lt n BITS then Some (Bit area n)

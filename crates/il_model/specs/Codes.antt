@@ -9,6 +9,7 @@ use Rattle.il_model.specs.declared.value.Value.{Value}
 use Rattle.il_model.specs.declared.op.Op.{Op}
 use Rattle.il_model.specs.declared.op.Op.TheVariants as ops
 use Rattle.il_model.specs.declared.op.Modifier.{Modifier}
+use Rattle.il_model.specs.declared.codes.TheConstants.{RETAINED}
 use Rattle.il_model.specs.declared.codes.Version.{Version}
 use Rattle.il_model.specs.declared.codes.Version.TheVariants as versions
 use Rattle.il_model.specs.declared.program.Loc.{Loc}
@@ -28,7 +29,8 @@ use Rattle.il_model.specs.declared.codes.OperandForm.TheVariants as forms
 use Rattle.il_model.specs.declared.codes.Usage.{Usage}
 use Rattle.il_model.specs.Values.{typed_value, number_of}
 use Rattle.il_model.specs.Operators.{is_zero}
-use Rattle.il_model.specs.Words.{same_name, is_lawful_name}
+use Rattle.il_model.specs.declared.limits.TheConstants.{LONGEST_NAME, LONGEST_DOTTED_NAME}
+use Rattle.il_model.specs.Words.{same_name, is_lawful_name, stands_under}
 use Rattle.il_model.specs.Kinds.{kind_fields, field_name}
 use Rattle.il_model.specs.Program.{Declarations}
 use Rattle.il_model.specs.Resolved.{instance_in}
@@ -39,6 +41,7 @@ use Rattle.il_model.specs.Marks.{Mark}
 use Rattle.il_model.specs.Constants.{same_value}
 use Rattle.il_model.specs.Image.{type_version, op_version, may_have, may_lie, may_retain, may_name}
 use Rattle.il_model.specs.Functions.{function_list}
+use Rattle.il_model.specs.BitStrings.{shift_list}
 use Rattle.il_model.specs.declared.coded_operand.CodedOperand.{CodedOperand}
 use Rattle.il_model.specs.declared.coded_operand.CodedOperand.TheVariants as coded
 use Rattle.il_model.specs.CodedOperands.{loc_code, with_code}
@@ -53,16 +56,27 @@ is_number seen name = position (λ (v : Variable). same_name v.name name) seen
 abbrev pub is_new_name : List Variable → List ℕ → Bool
 is_new_name seen name = is_lawful_name name && not (is_some (is_number seen name))
 
--- a lawful name that no variable and no instance before it has
+-- a variable stands under the name: with an instance of that name `T.Q` would be two things
+abbrev pub has_under : List Variable → List ℕ → Bool
+has_under vs name = list_any (λ (v : Variable). stands_under name v.name) vs
+
+-- a lawful name that no variable and no instance before it has, and under which no variable stands
 abbrev pub is_new_instance : List Variable → List Instance → List ℕ → Bool
-is_new_instance vs seen name = is_new_name vs name && not (is_some (instance_in seen name))
+is_new_instance vs seen name =
+    is_new_name vs name && not (is_some (instance_in seen name)) && not (has_under vs name)
 
 -- a lawful name that no label before it has; labels are a name space of their own
 abbrev pub is_new_label : List Mark → List ℕ → Bool
 is_new_label seen name = is_lawful_name name && not (is_some (position (λ (m : Mark). same_name m.name name) seen))
 
-abbrev pub length_of : ℕ → Option ℕ
-length_of n = if nat_lt 0 n && nat_lt n 33 then Some n else None
+-- how many bytes a name in an image of this version has at most
+abbrev pub longest_name : Version → ℕ
+longest_name versions.Three = LONGEST_DOTTED_NAME
+longest_name version = LONGEST_NAME
+
+-- the length of a name, if it is one
+abbrev pub length_in : Version → ℕ → Option ℕ
+length_in version n = if nat_lt 0 n && nat_le n (longest_name version) then Some n else None
 
 abbrev pub type_of : ℕ → Option Ty
 type_of zero = Some types.Bool
@@ -71,6 +85,8 @@ type_of (suc (suc zero)) = Some types.Dint
 type_of (suc (suc (suc zero))) = Some types.Time
 type_of (suc (suc (suc (suc zero)))) = Some types.Lint
 type_of (suc (suc (suc (suc (suc zero))))) = Some types.Real
+type_of (suc (suc (suc (suc (suc (suc zero)))))) = Some types.Word
+type_of (suc (suc (suc (suc (suc (suc (suc zero))))))) = Some types.Dword
 type_of n = None
 
 abbrev pub version_numbered : ℕ → Option Version
@@ -83,18 +99,18 @@ version_numbered n = None
 abbrev pub type_in : Version → ℕ → Option Ty
 type_in version n = option_and_then (if_passes (λ t. may_have version (type_version t))) (type_of n)
 
--- ---- a declaration's code: that of a type or of a kind, with 128 more where what is declared is retained
+-- ---- a declaration's code: that of a type or of a kind, with RETAINED more where what is declared is retained
 
-abbrev pub says_retained : ℕ → Bool
-says_retained code = nat_le 128 code
+abbrev pub is_retained_code : ℕ → Bool
+is_retained_code code = nat_le RETAINED code
 
 -- whether it is retained, where an image of this version may have that
 abbrev pub retained_in : Version → ℕ → Option Bool
-retained_in version code = if_passes (may_retain version) (says_retained code)
+retained_in version code = if_passes (may_retain version) (is_retained_code code)
 
 -- the code itself
 abbrev pub plain_code : ℕ → ℕ
-plain_code code = if says_retained code then code - 128 else code
+plain_code code = if is_retained_code code then code - RETAINED else code
 
 -- the bit or the word of this code is one of those that a location is
 abbrev pub has_code : ℕ → Option Loc → Bool
@@ -201,6 +217,7 @@ usage_of ops.IntToDint = record { letters = letters.None; form = forms.Absent }
 usage_of ops.DintToInt = record { letters = letters.None; form = forms.Absent }
 usage_of ops.DintToLint = record { letters = letters.None; form = forms.Absent }
 usage_of ops.LintToDint = record { letters = letters.None; form = forms.Absent }
+usage_of (ops.Shift s) = record { letters = letters.None; form = forms.Value }
 usage_of (ops.Apply f) = record { letters = letters.None; form = forms.Absent }
 
 -- no letter; N or none; C, CN or none; a parenthesis or none; that with N or without
@@ -231,7 +248,8 @@ formed_by usage m o = has_form usage.form m.opens o
 
 -- ---- words
 
--- the operators in the order of their codes; 26 and 27 are the codes of arguments, and functions have those from 32
+-- the operators in the order of their codes; 26 and 27 are the codes of arguments, functions have those from 32, and
+-- shifts those from 64
 abbrev pub op_list : List Op
 op_list =
     ops.Empty ∷ ops.Ld ∷ ops.St ∷ ops.S ∷ ops.R ∷ ops.And ∷ ops.Or ∷ ops.Xor ∷ ops.Not ∷
@@ -245,7 +263,9 @@ low_op_of n = if nat_eq n 28 then Some ops.DintToLint
 
 -- the operator of a code
 abbrev pub op_of : ℕ → Option Op
-op_of n = if nat_lt n 32 then low_op_of n else option_map ops.Apply (slice_get function_list (n - 32))
+op_of n = if nat_lt n 32 then low_op_of n
+    else (if nat_lt n 64 then option_map ops.Apply (slice_get function_list (n - 32))
+    else option_map ops.Shift (slice_get shift_list (n - 64)))
 
 -- the operator of a code in an image of this version
 abbrev pub op_in : Version → ℕ → Option Op

@@ -19,6 +19,8 @@ same_value (values.Dint a) (values.Dint b) = same_number a b
 same_value (values.Lint a) (values.Lint b) = same_number a b
 same_value (values.Time a) (values.Time b) = same_number a b
 same_value (values.Real a) (values.Real b) = same_number (pos a.pattern) (pos b.pattern)
+same_value (values.Word a) (values.Word b) = same_number (pos a) (pos b)
+same_value (values.Dword a) (values.Dword b) = same_number (pos a) (pos b)
 same_value a b = false
 
 abbrev pub operand_literal : Operand → Option Value

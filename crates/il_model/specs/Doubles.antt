@@ -1,5 +1,5 @@
--- Double words: two words that are one value of 32 bits, the high one first. A DINT and a TIME are its two's
--- complement, a REAL is its pattern in binary32 (IEEE 754-2019, 3.4).
+-- Words as bit strings, and double words: two words that are one value of 32 bits, the high one first. A DINT and a TIME
+-- are its two's complement, a REAL is its pattern in binary32 (IEEE 754-2019, 3.4), a DWORD the pattern itself.
 use Rattle.std.specs.Prelude.{ℕ, ◌+◌, ◌*◌, ◌^◌, ◌/◌, ◌%◌, ℤ, Option, Some, None, unwrap_or}
 use Rattle.std.specs.Int.{w16, w32, cast_signed, cast_unsigned}
 use Rattle.il_real.specs.Reals.{with_pattern, zero_real}
@@ -14,6 +14,7 @@ abbrev pub double_type : DoubleType → Ty
 double_type doubles.Dint = types.Dint
 double_type doubles.Time = types.Time
 double_type doubles.Real = types.Real
+double_type doubles.Dword = types.Dword
 
 -- the pattern that two words are
 abbrev pub pattern_of_words : ℤ → ℤ → ℕ
@@ -25,6 +26,7 @@ abbrev pub value_of_pattern : DoubleType → ℕ → Value
 value_of_pattern doubles.Dint pattern = values.Dint (cast_signed w32 pattern)
 value_of_pattern doubles.Time pattern = values.Time (cast_signed w32 pattern)
 value_of_pattern doubles.Real pattern = values.Real (unwrap_or (with_pattern pattern) zero_real)
+value_of_pattern doubles.Dword pattern = values.Dword (pattern % 2 ^ 32)
 
 -- what is read of two words
 abbrev pub double_value : DoubleType → ℤ → ℤ → Value
@@ -35,6 +37,7 @@ abbrev pub double_pattern : DoubleType → Value → Option ℕ
 double_pattern doubles.Dint (values.Dint z) = Some (cast_unsigned w32 z)
 double_pattern doubles.Time (values.Time z) = Some (cast_unsigned w32 z)
 double_pattern doubles.Real (values.Real r) = Some r.pattern
+double_pattern doubles.Dword (values.Dword n) = Some n
 double_pattern t v = None
 
 -- the words of a pattern
@@ -43,3 +46,7 @@ high_word pattern = cast_signed w16 (pattern / 2 ^ 16)
 
 abbrev pub low_word : ℕ → ℤ
 low_word pattern = cast_signed w16 (pattern % 2 ^ 16)
+
+-- what is read of one word that is a WORD
+abbrev pub word_value : ℤ → Value
+word_value z = values.Word (cast_unsigned w16 z % 2 ^ 16)

@@ -3,6 +3,7 @@ use Rattle.std.specs.Prelude.{◌≡◌, ℕ, ◌||◌, nat_eq, ◌<◌, ◌≤�
 use Rattle.std.specs.Prelude.{Some}
 use Rattle.std.specs.List.{AllByRecursion}
 use Rattle.std.specs.Option.{option_and_then}
+use Rattle.il_model.specs.declared.codes.Version.TheVariants as versions
 use Rattle.il_model.specs.declared.value.Value.{Value}
 use Rattle.il_model.specs.declared.op.Op.{Op}
 use Rattle.il_model.specs.declared.op.Modifier.{Modifier}
@@ -21,13 +22,13 @@ use Rattle.il_model.specs.Typing.{IsTyped}
 use Rattle.il_model.specs.Marks.{Mark, marks_from, words_in}
 use Rattle.il_model.specs.Constants.{constants_of}
 use Rattle.il_model.specs.Image.{type_code, location_code, op_code, modifier_code, operand_code}
-use Rattle.il_model.specs.Codes.{length_of, is_new_name, is_new_instance, is_new_label, type_of, coded_location}
+use Rattle.il_model.specs.Codes.{length_in, is_new_name, is_new_instance, is_new_label, type_of, coded_location}
 use Rattle.il_model.specs.Codes.{initial_of, constant_of, op_of, letters_of, word_operand, argument_name}
 use Rattle.il_model.specs.Codes.{argument_operand, is_call, is_pointless}
 
 -- a variable behind those that were declared before it
 pub record IsVariable (seen : List Variable) (v : Variable) : Type 0 where
-  pub length : length_of (length v.name) ≡ Some (length v.name)
+  pub length : length_in versions.Three (length v.name) ≡ Some (length v.name)
   pub name : is_new_name seen v.name ≡ true
   pub type : type_of (type_code v.ty) ≡ Some v.ty
   pub location : coded_location seen v.ty (location_code v.location) ≡ Some v.location
@@ -36,12 +37,12 @@ pub record IsVariable (seen : List Variable) (v : Variable) : Type 0 where
 
 -- an instance behind the variables and those before it
 pub record IsInstance (vs : List Variable) (seen : List Instance) (x : Instance) : Type 0 where
-  pub length : length_of (length x.name) ≡ Some (length x.name)
+  pub length : length_in versions.Three (length x.name) ≡ Some (length x.name)
   pub name : is_new_instance vs seen x.name ≡ true
 
 -- a label behind those before it
 pub record IsMark (seen : List Mark) (m : Mark) : Type 0 where
-  pub length : length_of (length m.name) ≡ Some (length m.name)
+  pub length : length_in versions.Three (length m.name) ≡ Some (length m.name)
   pub name : is_new_label seen m.name ≡ true
   pub small : m.at < 2 ^ 16
 

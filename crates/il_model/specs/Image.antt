@@ -8,12 +8,13 @@ use Rattle.std.specs.Int.{Width, w8, w16, w32, w64, to_be_bytes, cast_unsigned}
 use Rattle.il_model.specs.declared.value.Ty.{Ty}
 use Rattle.il_model.specs.declared.value.Ty.TheVariants as types
 use Rattle.il_model.specs.declared.op.Op.{Op}
+use Rattle.il_model.specs.declared.codes.TheConstants.{RETAINED}
 use Rattle.il_model.specs.declared.codes.Version.{Version}
 use Rattle.il_model.specs.declared.codes.Version.TheVariants as versions
 use Rattle.il_model.specs.declared.op.Op.TheVariants as ops
 use Rattle.il_model.specs.declared.op.Modifier.{Modifier}
 use Rattle.il_model.specs.declared.program.Loc.{Loc}
-use Rattle.il_model.specs.declared.program.Loc.TheVariants.{Double}
+use Rattle.il_model.specs.declared.program.Loc.TheVariants.{Pattern, Double}
 use Rattle.il_model.specs.declared.program.Place.{Place}
 use Rattle.il_model.specs.declared.program.Place.TheVariants as places
 use Rattle.il_model.specs.declared.program.Variable.{Variable}
@@ -29,7 +30,7 @@ use Rattle.il_model.specs.declared.value.Value.{Value}
 use Rattle.il_model.specs.declared.coded_operand.CodedOperand.{CodedOperand}
 use Rattle.il_model.specs.declared.coded_operand.CodedOperand.TheVariants as coded
 use Rattle.il_model.specs.Values.{ty_of, number_of}
-use Rattle.il_model.specs.Words.{same_name}
+use Rattle.il_model.specs.Words.{same_name, has_dot}
 use Rattle.std.specs.List.{position}
 use Rattle.il_model.specs.CodedOperands.{code_of}
 use Rattle.il_model.specs.Program.{Program, Declarations, declared_by}
@@ -38,6 +39,7 @@ use Rattle.il_model.specs.Resolved.{target_of, instance_in, field_in, called_kin
 use Rattle.il_model.specs.Marks.{Mark, marks_from, words_in, address_of}
 use Rattle.il_model.specs.Constants.{same_value, constants_of, operands_in}
 use Rattle.il_model.specs.Functions.{function_code}
+use Rattle.il_model.specs.BitStrings.{shift_code}
 
 abbrev pub type_code : Ty → ℕ
 type_code types.Bool = 0
@@ -46,6 +48,8 @@ type_code types.Dint = 2
 type_code types.Time = 3
 type_code types.Lint = 4
 type_code types.Real = 5
+type_code types.Word = 6
+type_code types.Dword = 7
 
 abbrev pub location_code : Option Loc → ℕ
 location_code None = code_of coded.Unused
@@ -54,8 +58,8 @@ location_code (Some loc) = code_of (coded.Location loc)
 abbrev pub name_bytes : List ℕ → List ℕ
 name_bytes name = to_be_bytes w8 (length name) ++ name
 
--- ---- versions: the second came with LINT, and has numbers of 64 bits, as the third, which came with REAL, functions,
--- double words and what is retained
+-- ---- versions: the second came with LINT, and has numbers of 64 bits, as the third, which came with REAL, bit
+-- strings, functions, double words and what is retained
 
 abbrev pub version_number : Version → ℕ
 version_number versions.One = 1
@@ -71,23 +75,27 @@ number_width versions.Three = w64
 abbrev pub type_version : Ty → Version
 type_version types.Lint = versions.Two
 type_version types.Real = versions.Three
+type_version types.Word = versions.Three
+type_version types.Dword = versions.Three
 type_version _ = versions.One
 
 abbrev pub value_version : Value → Version
 value_version v = type_version (ty_of v)
 
--- the version that an operator came with: the conversions from LINT and to it with the second; MIN, MAX and functions
--- with the third
+-- the version that an operator came with: the conversions from LINT and to it with the second; MIN, MAX, shifts and
+-- functions with the third
 abbrev pub op_version : Op → Version
 op_version ops.DintToLint = versions.Two
 op_version ops.LintToDint = versions.Two
 op_version ops.Min = versions.Three
 op_version ops.Max = versions.Three
+op_version (ops.Shift s) = versions.Three
 op_version (ops.Apply f) = versions.Three
 op_version _ = versions.One
 
--- the version that a location came with: double words with the third
+-- the version that a location came with: patterns and double words with the third
 abbrev pub location_version : Loc → Version
+location_version (Pattern a n) = versions.Three
 location_version (Double a n t) = versions.Three
 location_version loc = versions.One
 
@@ -104,6 +112,10 @@ abbrev pub retained_version : Bool → Version
 retained_version true = versions.Three
 retained_version false = versions.One
 
+-- the version that a name came with: one with dots with the third
+abbrev pub name_version : List ℕ → Version
+name_version name = if has_dot name then versions.Three else versions.One
+
 -- an image of a version may have what came with this one or an earlier one
 abbrev pub may_have : Version → Version → Bool
 may_have versions.One versions.One = true
@@ -117,14 +129,21 @@ may_lie version place = may_have version (place_version place)
 abbrev pub may_retain : Version → Bool → Bool
 may_retain version retained = may_have version (retained_version retained)
 
--- by its type, by its first value (in each program that has an image the two are of one type), by its location, and by
--- whether it's retained
+abbrev pub may_call : Version → List ℕ → Bool
+may_call version name = may_have version (name_version name)
+
+abbrev pub may_label : Version → Option (List ℕ) → Bool
+may_label version None = true
+may_label version (Some name) = may_call version name
+
+-- by its name, by its type, by its first value (in each program that has an image the two are of one type), by its
+-- location, and by whether it's retained
 abbrev pub may_declare : Version → Variable → Bool
-may_declare version v = may_have version (type_version v.ty)
-    && (may_have version (value_version v.initial) && (may_lie version v.location && may_retain version v.retained))
+may_declare version v = may_call version v.name && (may_have version (type_version v.ty)
+    && (may_have version (value_version v.initial) && (may_lie version v.location && may_retain version v.retained)))
 
 abbrev pub may_instantiate : Version → Instance → Bool
-may_instantiate version x = may_retain version x.retained
+may_instantiate version x = may_call version x.name && may_retain version x.retained
 
 abbrev pub may_keep : Version → Value → Bool
 may_keep version v = may_have version (value_version v)
@@ -132,9 +151,10 @@ may_keep version v = may_have version (value_version v)
 abbrev pub may_name : Version → Operand → Bool
 may_name version operand = may_have version (operand_version operand)
 
--- by its operator, and by its operand and those of its arguments
+-- by its label, by its operator, and by its operand and those of its arguments
 abbrev pub may_write : Version → Instr → Bool
-may_write version line = may_have version (op_version line.op) && list_all (may_name version) (operands_in line)
+may_write version line = may_label version line.label
+    && (may_have version (op_version line.op) && list_all (may_name version) (operands_in line))
 
 -- an image of a version may have all of this
 abbrev pub suffices : Version → List Variable → List Instance → List Value → List Instr → Bool
@@ -159,9 +179,9 @@ abbrev pub flag : Bool → ℕ → ℕ
 flag true n = n
 flag false n = 0
 
--- the code of a type or of a kind as a declaration has it: 128 more where what is declared is retained
+-- the code of a type or of a kind as a declaration has it: RETAINED more where what is declared is retained
 abbrev pub declared_code : Bool → ℕ → ℕ
-declared_code retained code = flag retained 128 + code
+declared_code retained code = flag retained RETAINED + code
 
 abbrev pub variable_bytes : Version → Variable → List ℕ
 variable_bytes version v = name_bytes v.name
@@ -199,6 +219,7 @@ op_code ops.DintToLint = 28
 op_code ops.LintToDint = 29
 op_code ops.Min = 30
 op_code ops.Max = 31
+op_code (ops.Shift s) = shift_code s
 op_code (ops.Apply f) = function_code f
 
 abbrev pub modifier_code : Modifier → ℕ

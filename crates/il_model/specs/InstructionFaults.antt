@@ -30,6 +30,7 @@ use Rattle.il_model.specs.Codes.{is_jump, is_call}
 use Rattle.il_model.specs.Program.{Program}
 use Rattle.il_model.specs.Resolved.{source_of, target_of, called_kind}
 use Rattle.il_model.specs.Row.{same_type, is_bool, negatable}
+use Rattle.il_model.specs.Values.{is_bit_string}
 use Rattle.il_model.specs.Typing.{Shape, kind_field}
 use Rattle.il_model.specs.Checking.{top_of, operand_kind, goes_so, fault_rank}
 
@@ -137,7 +138,7 @@ takes cr held ops.Ld m kind = operand_is (negatable m.negated) kind
 takes cr held ops.St m kind = both_are (λ c t. same_type c t && negatable m.negated t) cr kind
 takes cr held ops.S m kind = both_are (λ c t. is_bool t && is_bool c) cr kind
 takes cr held ops.R m kind = both_are (λ c t. is_bool t && is_bool c) cr kind
-takes cr held ops.Not m kind = result_is is_bool cr
+takes cr held ops.Not m kind = result_is is_bit_string cr
 takes cr held ops.Jmp m kind = if m.conditional then result_is is_bool cr else true
 takes cr held ops.Cal m kind = if m.conditional then result_is is_bool cr else true
 takes cr held ops.Ret m kind = if m.conditional then result_is is_bool cr else true

@@ -1,6 +1,7 @@
 -- What a program is whose parts are lawful each for itself. Once it is typed it has an image.
 use Rattle.std.specs.Prelude.{◌≡◌, ℕ, ℤ, true, false, List, [], ◌∷◌, length, Option, Some, None, is_some}
 use Rattle.std.specs.List.{AllByRecursion}
+use Rattle.il_model.specs.declared.codes.Version.TheVariants as versions
 use Rattle.il_model.specs.declared.codes.OperandForm.TheVariants as forms
 use Rattle.il_model.specs.declared.program.Argument.{Argument}
 use Rattle.il_model.specs.declared.program.Operand.{Operand}
@@ -12,7 +13,7 @@ use Rattle.il_model.specs.Program.{Declarations}
 use Rattle.il_model.specs.Resolved.{instance_in}
 use Rattle.il_model.specs.Locations.{is_nameable}
 use Rattle.il_model.specs.CodedOperands.{IsCell}
-use Rattle.il_model.specs.Codes.{is_number, length_of, usage_of, allowed_by, formed_by, has_form, is_pointless}
+use Rattle.il_model.specs.Codes.{is_number, length_in, usage_of, allowed_by, formed_by, has_form, is_pointless}
 
 -- a value that fits its type, a variable or an instance that is declared, a location that is there and can be named,
 -- and of a bare number what is asked of it; labels and fields are judged with the types
@@ -31,7 +32,7 @@ IsOperand ds operand = IsOperandOf (λ z. Unit {0}) ds operand
 
 abbrev pub IsLabel : Option (List ℕ) → Type 0
 IsLabel None = Unit {0}
-IsLabel (Some name) = (length_of (length name) ≡ Some (length name)) × (is_lawful_name name ≡ true)
+IsLabel (Some name) = (length_in versions.Three (length name) ≡ Some (length name)) × (is_lawful_name name ≡ true)
 
 -- an argument has a value or a place
 pub record IsPassed (ds : Declarations) (a : Argument) : Type 0 where

@@ -1,4 +1,5 @@
 pub mod Values
+pub mod BitStrings
 pub mod Operators
 pub mod Functions
 pub mod Words

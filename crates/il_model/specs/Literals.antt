@@ -246,7 +246,7 @@ literal_by read bytes =
 unfoldable pub literal_of : List ℕ → Option Literal
 literal_of bytes = literal_by integer_of bytes
 
--- ---- literals of extended texts: those, and REALs
+-- ---- literals of extended texts: those, REALs and bit strings
 
 abbrev pub has_point : List ℕ → Bool
 has_point bytes = list_any (λ b. b == 46) bytes
@@ -256,7 +256,11 @@ typed_real r = option_map (λ r. Typed (values.Real r)) r
 
 -- behind a word and a #
 abbrev pub extended_prefixed : List ℕ → List ℕ → List ℕ → Option Literal
-extended_prefixed word rest bytes = if spells (codes "REAL") word then typed_real (real_literal rest) else literal_of bytes
+extended_prefixed word rest bytes =
+    if spells (codes "REAL") word then typed_real (real_literal rest)
+    else if spells (codes "WORD") word then typed_literal types.Word (whole_by integer_of rest)
+    else if spells (codes "DWORD") word then typed_literal types.Dword (whole_by integer_of rest)
+    else literal_of bytes
 
 abbrev pub extended_plain : List ℕ → Option Literal
 extended_plain bytes = if has_point bytes then typed_real (real_literal bytes) else literal_of bytes

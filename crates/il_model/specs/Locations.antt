@@ -7,7 +7,7 @@ use Rattle.il_model.specs.declared.value.Ty.{Ty}
 use Rattle.il_model.specs.declared.value.Ty.TheVariants as types
 use Rattle.il_model.specs.declared.program.Area.{Area}
 use Rattle.il_model.specs.declared.program.Loc.{Loc}
-use Rattle.il_model.specs.declared.program.Loc.TheVariants.{Bit, Word, Double}
+use Rattle.il_model.specs.declared.program.Loc.TheVariants.{Bit, Word, Pattern, Double}
 use Rattle.il_model.specs.declared.program.DoubleType.{DoubleType}
 use Rattle.il_model.specs.declared.program.DoubleType.TheVariants as doubles
 use Rattle.il_model.specs.declared.limits.TheConstants.{BITS, WORDS}
@@ -21,6 +21,7 @@ use Rattle.il_model.specs.Literals.{integer_of}
 abbrev pub area_of : Loc → Area
 area_of (Bit a n) = a
 area_of (Word a n) = a
+area_of (Pattern a n) = a
 area_of (Double a n t) = a
 
 -- whether a double word begins at the word with this number: at each even one, so that no two double words overlap in
@@ -28,15 +29,18 @@ area_of (Double a n t) = a
 abbrev pub begins_double : ℕ → Bool
 begins_double n = nat_lt n WORDS && nat_eq (n % 2) 0
 
--- the bit or the words that a location is: a double word is that word and the next one
+-- the bit or the words that a location is: a pattern is its word, a double word that word and the next one
 abbrev pub parts_of : Loc → List Loc
+parts_of (Pattern a n) = Word a n ∷ []
 parts_of (Double a n t) = Word a n ∷ Word a (suc n) ∷ []
 parts_of loc = loc ∷ []
 
--- what an instruction can name: a double word by itself is DINT, and of another type by a declaration
+-- what an instruction can name: a word by itself is INT, a double word DINT, and of another type by a declaration
 abbrev pub is_nameable : Loc → Bool
 is_nameable (Double a n doubles.Time) = false
 is_nameable (Double a n doubles.Real) = false
+is_nameable (Double a n doubles.Dword) = false
+is_nameable (Pattern a n) = false
 is_nameable loc = true
 
 -- ---- the cells of an area, and the images of inputs and outputs
@@ -109,10 +113,17 @@ abbrev pub double_as : Ty → DoubleType → DoubleType
 double_as types.Dint t = doubles.Dint
 double_as types.Time t = doubles.Time
 double_as types.Real t = doubles.Real
+double_as types.Dword t = doubles.Dword
 double_as type t = t
 
--- a double word is one of that type; any other location stays as it is
+-- a word that is a WORD is a pattern
+abbrev pub word_as : Ty → Area → ℕ → Loc
+word_as types.Word a n = Pattern a n
+word_as type a n = Word a n
+
+-- a double word is one of that type, and a word may be a pattern; any other location stays as it is
 abbrev pub seen_as : Ty → Loc → Loc
+seen_as type (Word a n) = word_as type a n
 seen_as type (Double a n t) = Double a n (double_as type t)
 seen_as type loc = loc
 

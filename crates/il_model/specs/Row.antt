@@ -16,6 +16,7 @@ use Rattle.il_model.specs.declared.typing.Effect.{Effect}
 use Rattle.il_model.specs.declared.typing.Effect.TheVariants.{Sets, Opens, Closes}
 use Rattle.il_model.specs.declared.limits.TheConstants.{MOST_OPEN_PARENTHESES}
 use Rattle.il_model.specs.declared.function.Function.{Function}
+use Rattle.il_model.specs.Values.{is_bit_string}
 use Rattle.il_model.specs.Operators.{joined_type}
 use Rattle.il_model.specs.Functions.{function_type}
 
@@ -26,15 +27,17 @@ same_type types.Dint types.Dint = true
 same_type types.Lint types.Lint = true
 same_type types.Time types.Time = true
 same_type types.Real types.Real = true
+same_type types.Word types.Word = true
+same_type types.Dword types.Dword = true
 same_type a b = false
 
 abbrev pub is_bool : Ty → Bool
 is_bool types.Bool = true
 is_bool t = false
 
--- a letter N asks for BOOL
+-- a letter N asks for a bit string
 abbrev pub negatable : Bool → Ty → Bool
-negatable negated t = not negated || is_bool t
+negatable negated t = not negated || is_bit_string t
 
 -- An operand that is no field of its block is a bad field in each row.
 abbrev pub load_row : Bool → OperandKind → Result Effect TypeFault
@@ -58,6 +61,10 @@ set_row cr kind = Err NotWritable
 abbrev pub truth_row : Option Ty → Result Effect TypeFault
 truth_row None = Err NoCurrentResult
 truth_row (Some c) = if is_bool c then Ok (Sets (Some c)) else Err TypeMismatch
+
+abbrev pub not_row : Option Ty → Result Effect TypeFault
+not_row None = Err NoCurrentResult
+not_row (Some c) = if is_bit_string c then Ok (Sets (Some c)) else Err TypeMismatch
 
 abbrev pub leave_row : Option Ty → Bool → Result Effect TypeFault
 leave_row cr conditional = if conditional then truth_row cr else Ok (Sets None)
@@ -125,7 +132,7 @@ row cr top depth ops.Ld m kind = load_row m.negated kind
 row cr top depth ops.St m kind = store_row cr m.negated kind
 row cr top depth ops.S m kind = set_row cr kind
 row cr top depth ops.R m kind = set_row cr kind
-row cr top depth ops.Not m kind = truth_row cr
+row cr top depth ops.Not m kind = not_row cr
 row cr top depth ops.Jmp m kind = outside depth (jump_row cr m.conditional kind)
 row cr top depth ops.Cal m kind = outside depth (call_row cr m.conditional kind)
 row cr top depth ops.Ret m kind = outside depth (leave_row cr m.conditional)

@@ -12,7 +12,7 @@ use Rattle.il_model.specs.declared.op.Modifier.{Modifier}
 use Rattle.il_model.specs.declared.program.Area.{Area}
 use Rattle.il_model.specs.declared.program.Area.TheVariants as areas
 use Rattle.il_model.specs.declared.program.Loc.{Loc}
-use Rattle.il_model.specs.declared.program.Loc.TheVariants.{Bit, Word, Double}
+use Rattle.il_model.specs.declared.program.Loc.TheVariants.{Bit, Word, Pattern, Double}
 use Rattle.il_model.specs.declared.program.Place.{Place}
 use Rattle.il_model.specs.declared.program.Place.TheVariants.{Own, At}
 use Rattle.il_model.specs.declared.program.Place.TheVariants as places
@@ -29,7 +29,7 @@ use Rattle.il_model.specs.declared.fetched.Source.{Source}
 use Rattle.il_model.specs.declared.fetched.Source.TheVariants as sources
 use Rattle.il_model.specs.declared.typing.Held.{Held}
 use Rattle.il_model.specs.Program.{Program}
-use Rattle.il_model.specs.Values.{ty_of}
+use Rattle.il_model.specs.Values.{ty_of, is_bit_string}
 use Rattle.il_model.specs.Locations.{area_of, begins_double}
 use Rattle.il_model.specs.Doubles.{double_type}
 use Rattle.il_model.specs.Kinds.{kind_fields, field_number, field_type, is_input}
@@ -44,6 +44,7 @@ use Rattle.il_model.specs.Resolved.{source_of, target_of, is_labelled, called_ki
 abbrev pub loc_type : Loc → Option Ty
 loc_type (Bit a n) = if nat_lt n BITS then Some types.Bool else None
 loc_type (Word a n) = if nat_lt n WORDS then Some types.Int else None
+loc_type (Pattern a n) = if nat_lt n WORDS then Some types.Word else None
 loc_type (Double a n t) = if begins_double n then Some (double_type t) else None
 
 -- the field of an instance by its number
@@ -91,9 +92,9 @@ pub record Shape : Type 0 where
   pub cr : Option Ty
   pub kept : List Held
 
--- N asks for BOOL
+-- N asks for a bit string
 abbrev pub AllowsN : Modifier → Ty → Type 0
-AllowsN m t = m.negated ≡ true → t ≡ types.Bool
+AllowsN m t = m.negated ≡ true → is_bit_string t ≡ true
 
 -- C asks for a current result that is BOOL
 abbrev pub AllowsC : Modifier → Shape → Type 0
@@ -130,7 +131,7 @@ Operates true Q op m x before after = (left : Ty) × (inside : Option Ty) × (be
 -- at a closing parenthesis the operator that waits for it takes the current result on its right
 abbrev pub Closes : Shape → Shape → Type 0
 Closes before after = (held : Held) × (rest : List Held) × (right : Ty) × (result : Ty) × (before.kept ≡ held ∷ rest)
-    × (before.cr ≡ Some right) × (held.negated ≡ true → right ≡ types.Bool)
+    × (before.cr ≡ Some right) × (held.negated ≡ true → is_bit_string right ≡ true)
     × (joined_type held.op held.ty right ≡ Some result) × (after ≡ record { cr = Some result; kept = rest })
 
 -- what an operator with its letters and its operand needs before it, and leaves after it; the last line is that of AND,
@@ -141,7 +142,7 @@ Takes Q ops.Ld m x before after = (t : Ty) × HasType Q x t × AllowsN m t × (a
 Takes Q ops.St m x before after = (t : Ty) × (before.cr ≡ Some t) × MayStore Q x t × AllowsN m t × (after ≡ before)
 Takes Q ops.S m x before after = (before.cr ≡ Some types.Bool) × MayStore Q x types.Bool × (after ≡ before)
 Takes Q ops.R m x before after = (before.cr ≡ Some types.Bool) × MayStore Q x types.Bool × (after ≡ before)
-Takes Q ops.Not m x before after = (before.cr ≡ Some types.Bool) × (after ≡ before)
+Takes Q ops.Not m x before after = (t : Ty) × (before.cr ≡ Some t) × (is_bit_string t ≡ true) × (after ≡ before)
 Takes Q ops.Jmp m x before after = (n : ℕ) × (source_of Q x ≡ Some (sources.Target n)) × Leaves m before after
 Takes Q ops.Ret m x before after = Leaves m before after
 Takes Q ops.Cal m x before after = (i : ℕ) × (source_of Q x ≡ Some (sources.Instance i)) × (before.kept ≡ [])

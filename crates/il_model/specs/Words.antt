@@ -1,5 +1,5 @@
 -- Words, without regard to case: those of operators (IEC 61131-3:2003, table 52), and which are names (2.1.2).
-use Rattle.std.specs.Prelude.{ℕ, ◌-◌, List, [], ◌∷◌, Bool, true, false, ◌&&◌, ◌==◌, nat_le, Option, Some, None}
+use Rattle.std.specs.Prelude.{ℕ, ◌-◌, List, [], ◌∷◌, ◌++◌, Bool, true, false, ◌&&◌, ◌==◌, nat_le, Option, Some, None}
 use Rattle.std.specs.Prelude.{if◌then◌else◌, codes, ◌≡◌, not, ◌||◌, length, is_some, nat_lt, nat_eq}
 use Rattle.std.specs.List.{AllByRecursion, list_all, list_any}
 use Rattle.std.specs.Str.{bytes_eq}
@@ -7,6 +7,8 @@ use Rattle.il_model.specs.declared.op.Op.{Op}
 use Rattle.il_model.specs.declared.op.Modifier.{Modifier}
 use Rattle.il_model.specs.declared.words.Mnemonic.{Mnemonic}
 use Rattle.il_model.specs.declared.op.Op.TheVariants as ops
+use Rattle.il_model.specs.declared.shift.Shift.TheVariants as shifts
+use Rattle.il_model.specs.declared.limits.TheConstants.{LONGEST_NAME}
 use Rattle.il_model.specs.Kinds.{kind_of_name}
 
 -- a byte, a small letter as its capital one
@@ -54,7 +56,9 @@ mnemonic_table =
 
 -- the operators that extended texts have besides
 abbrev pub extended_mnemonic_table : List (List ℕ × Op × Modifier)
-extended_mnemonic_table = (codes "MIN", ops.Min, plain) ∷ (codes "MAX", ops.Max, plain) ∷ []
+extended_mnemonic_table = (codes "MIN", ops.Min, plain) ∷ (codes "MAX", ops.Max, plain) ∷
+    (codes "SHL", ops.Shift shifts.Left, plain) ∷ (codes "SHR", ops.Shift shifts.Right, plain) ∷
+    (codes "ROL", ops.Shift shifts.RotateLeft, plain) ∷ (codes "ROR", ops.Shift shifts.RotateRight, plain) ∷ []
 
 -- the first entry that is spelled so
 unfoldable pub look : List (List ℕ × Op × Modifier) → List ℕ → Option Mnemonic
@@ -119,6 +123,57 @@ abbrev pub is_reserved : List ℕ → Bool
 is_reserved name = is_reserved_operator name || is_some (kind_of_name name)
     || list_any (λ word. bytes_eq word name) reserved_words
 
--- what a variable, an instance or a label may be called
+-- ---- names with dots: extended texts and images of version 3 have them
+
+abbrev pub dot : ℕ
+dot = 46
+
+abbrev pub is_dot : ℕ → Bool
+is_dot b = b == dot
+
+abbrev pub has_dot : List ℕ → Bool
+has_dot name = list_any is_dot name
+
+-- a name under another: that one, a dot, and its own
+abbrev pub under : List ℕ → List ℕ → List ℕ
+under front name = front ++ dot ∷ name
+
+-- a byte before the first part of some
+abbrev pub onto_first : ℕ → List (List ℕ) → List (List ℕ)
+onto_first b [] = (b ∷ []) ∷ []
+onto_first b (part ∷ parts) = (b ∷ part) ∷ parts
+
+-- what stands between the dots of a name: itself, where it has none
+unfoldable pub name_parts : List ℕ → List (List ℕ)
+name_parts [] = [] ∷ []
+name_parts (b ∷ bs) = if is_dot b then [] ∷ name_parts bs else onto_first b (name_parts bs)
+
+-- the parts of a name by its first and what stands behind the dot
+abbrev pub parts_with : List ℕ → Option (List ℕ) → List (List ℕ)
+parts_with part None = part ∷ []
+parts_with part (Some rest) = part ∷ name_parts rest
+
+-- the name stands under this one
+unfoldable pub stands_under : List ℕ → List ℕ → Bool
+stands_under [] name = begins_with dot name
+stands_under (c ∷ cs) [] = false
+stands_under (c ∷ cs) (b ∷ bs) = b == c && stands_under cs bs
+
+-- a byte in front of what stands before the last dot; or the bytes before the dot that it is
+abbrev pub before_last : ℕ → List ℕ → Option (List ℕ × List ℕ) → Option (List ℕ × List ℕ)
+before_last b bs (Some (front, last)) = Some (b ∷ front, last)
+before_last b bs None = if is_dot b then Some ([], bs) else None
+
+-- what stands before the last dot of a name, and behind it
+unfoldable pub split_last : List ℕ → Option (List ℕ × List ℕ)
+split_last [] = None
+split_last (b ∷ bs) = before_last b bs (split_last bs)
+
+-- a word in capital letters that is spelled as a name is, be it reserved or not
+abbrev pub is_part : List ℕ → Bool
+is_part part =
+    begins_name part && list_all is_name_byte part && is_well_spelled part && nat_le (length part) LONGEST_NAME
+
+-- what a variable, an instance or a label may be called: a word that isn't reserved, or some words with dots between
 abbrev pub is_lawful_name : List ℕ → Bool
-is_lawful_name name = begins_name name && list_all is_name_byte name && is_well_spelled name && not (is_reserved name)
+is_lawful_name name = if has_dot name then list_all is_part (name_parts name) else is_part name && not (is_reserved name)

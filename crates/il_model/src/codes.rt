@@ -7,14 +7,18 @@ ghost use Rattle.il_model.specs.declared.program.Argument.{Argument};
 ghost use Rattle.il_model.specs.Image.{type_code, location_code, op_code, version_number, type_version, op_version};
 ghost use Rattle.il_model.specs.Image.{location_version, place_version, operand_version, retained_version, may_have};
 ghost use Rattle.il_model.specs.Image.{may_lie, may_retain, may_declare, may_instantiate, may_keep, declared_code};
+ghost use Rattle.il_model.specs.Image.{name_version, may_call, may_label};
 ghost use Rattle.il_model.specs.Image.{may_name, may_write, suffices, version_with, flag};
 ghost use Rattle.il_model.specs.Image.{modifier_code, side_code};
 ghost use Rattle.il_model.specs.Constants.{operands_in};
-ghost use Rattle.il_model.specs.Codes.{length_of, type_of, type_in, op_in, version_numbered, is_type, may_start_with};
+ghost use Rattle.il_model.specs.Codes.{longest_name, length_in};
+ghost use Rattle.il_model.specs.Codes.{type_of, type_in, op_in, version_numbered, is_type, may_start_with};
 ghost use Rattle.il_model.specs.Codes.{initial_of, op_of, modifier_of, usage_of, allows, has_form, allowed_by};
 ghost use Rattle.il_model.specs.Codes.{formed_by, letters_of, side_of, is_pointless, retained_in, plain_code};
 
 use crate::coded_operand::CodedOperand;
+use crate::limits::{LONGEST_DOTTED_NAME, LONGEST_NAME};
+use crate::name::{Name, has_dot};
 use crate::op::{Modifier, Op};
 use crate::program::{Argument, Instance, Instr, Loc, Operand, Side, Variable};
 use crate::resolve::in_writable_area;
@@ -22,6 +26,9 @@ use crate::value::{Ty, Value, make};
 
 /// How each image begins.
 pub const MAGIC: [u8; 4] = *b"ILPC";
+
+/// So much more is the code of a declaration where what is declared is retained: bit 7 is set.
+pub const RETAINED: u8 = 0x80;
 
 /// The code of a type.
 pub fn type_code(ty: Ty) -> usize
@@ -35,6 +42,8 @@ pub fn type_code(ty: Ty) -> usize
         Ty::Time => 3,
         Ty::Lint => 4,
         Ty::Real => 5,
+        Ty::Word => 6,
+        Ty::Dword => 7,
     }
 }
 
@@ -49,6 +58,8 @@ pub fn type_of(code: u8) -> Option<Ty>
         3 => Some(Ty::Time),
         4 => Some(Ty::Lint),
         5 => Some(Ty::Real),
+        6 => Some(Ty::Word),
+        7 => Some(Ty::Dword),
         _ => None,
     }
 }
@@ -74,7 +85,7 @@ pub fn is_type(ty: Ty, other: Option<Ty>) -> bool
 }
 
 /// The version of an image: from the second on each initial value and constant has 64 bits; the third came with REAL,
-/// double words and what is retained.
+/// bit strings, MIN, MAX, shifts and functions, double words and what is retained.
 #[derive(Clone, Copy, PartialEq, Eq)]
 pub enum Version {
     One,
@@ -142,7 +153,8 @@ impl Version {
     fn may_declare(self, v: &Variable) -> bool
         ensures { result ≡ may_declare self v.now }
     {
-        self.may_have(type_version(v.ty))
+        self.may_call(&v.name)
+            && self.may_have(type_version(v.ty))
             && self.may_keep(v.initial)
             && self.may_lie(v.location)
             && self.may_retain(v.retained)
@@ -151,7 +163,23 @@ impl Version {
     fn may_instantiate(self, x: &Instance) -> bool
         ensures { result ≡ may_instantiate self x.now }
     {
-        self.may_retain(x.retained)
+        self.may_call(&x.name) && self.may_retain(x.retained)
+    }
+
+    /// Whether an image of this version may have the name.
+    pub fn may_call(self, name: &Name) -> bool
+        ensures { result ≡ may_call self name.now }
+    {
+        self.may_have(name_version(name.bytes()))
+    }
+
+    fn may_label(self, label: &Option<Name>) -> bool
+        ensures { result ≡ may_label self label.now }
+    {
+        match label {
+            Some(name) => self.may_call(name),
+            None => true,
+        }
     }
 
     fn may_keep(self, v: Value) -> bool
@@ -181,7 +209,9 @@ impl Version {
     fn may_write(self, line: &Instr) -> bool
         ensures { result ≡ may_write self line.now }
     {
-        self.may_have(op_version(line.op)) && self.may_name_all_in(line)
+        self.may_label(&line.label)
+            && self.may_have(op_version(line.op))
+            && self.may_name_all_in(line)
     }
 
     fn may_declare_all(self, variables: &[Variable]) -> bool
@@ -225,13 +255,24 @@ impl Version {
     }
 }
 
+/// The version that a name came with: one with dots with the third.
+pub fn name_version(name: &[u8]) -> Version
+    ensures { result ≡ name_version name.now }
+{
+    if has_dot(name) {
+        Version::Three
+    } else {
+        Version::One
+    }
+}
+
 /// The version that a type came with.
 pub fn type_version(ty: Ty) -> Version
     ensures { result ≡ type_version ty }
 {
     match ty {
         Ty::Lint => Version::Two,
-        Ty::Real => Version::Three,
+        Ty::Real | Ty::Word | Ty::Dword => Version::Three,
         _ => Version::One,
     }
 }
@@ -242,7 +283,7 @@ pub fn op_version(op: Op) -> Version
 {
     match op {
         Op::DintToLint | Op::LintToDint => Version::Two,
-        Op::Min | Op::Max | Op::Apply(_) => Version::Three,
+        Op::Min | Op::Max | Op::Shift(_) | Op::Apply(_) => Version::Three,
         _ => Version::One,
     }
 }
@@ -252,7 +293,7 @@ fn location_version(loc: Loc) -> Version
     ensures { result ≡ location_version loc }
 {
     match loc {
-        Loc::Double(_, _, _) => Version::Three,
+        Loc::Pattern(_, _) | Loc::Double(_, _, _) => Version::Three,
         _ => Version::One,
     }
 }
@@ -339,14 +380,14 @@ pub fn declared_code(retained: bool, code: usize) -> usize
     requires { code < 2 ^ 8 }
     ensures { result ≡ declared_code retained code }
 {
-    flag(retained, 128) + code
+    flag(retained, RETAINED as usize) + code
 }
 
 /// Whether what a declaration's code stands for is retained; none where an image of this version has no such code.
 pub fn retained_in(version: Version, code: u8) -> Option<bool>
     ensures { result ≡ retained_in version code }
 {
-    let retained = code >= 128;
+    let retained = code >= RETAINED;
     if version.may_retain(retained) {
         Some(retained)
     } else {
@@ -358,7 +399,11 @@ pub fn retained_in(version: Version, code: u8) -> Option<bool>
 pub fn plain_code(code: u8) -> u8
     ensures { result ≡ plain_code code }
 {
-    if code >= 128 { code - 128 } else { code }
+    if code >= RETAINED {
+        code - RETAINED
+    } else {
+        code
+    }
 }
 
 /// The type of a code in an image of this version.
@@ -476,7 +521,7 @@ fn usage_of(op: Op) -> Usage
 {
     match op {
         Op::Ld | Op::St => row(LetterSet::N, OperandForm::Value),
-        Op::S | Op::R => row(LetterSet::None, OperandForm::Value),
+        Op::S | Op::R | Op::Shift(_) => row(LetterSet::None, OperandForm::Value),
         Op::And | Op::Or | Op::Xor => row(LetterSet::NOpens, OperandForm::Value),
         Op::Add | Op::Sub | Op::Mul | Op::Div | Op::Mod | Op::Min | Op::Max => row(
             LetterSet::Opens,
@@ -586,9 +631,22 @@ pub fn is_pointless(line: &Instr) -> bool
     line.op == Op::Empty && line.label.is_none()
 }
 
-/// The length of a name, if it is one.
-pub fn length_of(n: u8) -> Option<u8>
-    ensures { result ≡ length_of n }
+fn longest_name(version: Version) -> u8
+    ensures { result ≡ longest_name version }
 {
-    if 0 < n && n < 33 { Some(n) } else { None }
+    match version {
+        Version::One | Version::Two => LONGEST_NAME as u8,
+        Version::Three => LONGEST_DOTTED_NAME as u8,
+    }
+}
+
+/// The length of a name in an image of this version, if it is one.
+pub fn length_in(version: Version, n: u8) -> Option<u8>
+    ensures { result ≡ length_in version n }
+{
+    if 0 < n && n <= longest_name(version) {
+        Some(n)
+    } else {
+        None
+    }
 }

@@ -22,7 +22,7 @@ pub enum Command {
     Step,
     /// Goes on with the held scan.
     Continue,
-    /// Lays a value over a location of `%I` or `%Q`, until it's unforced.
+    /// Lays a value over a bit or a word of `%I` or `%Q`, until it's unforced.
     Force(Slot, Value),
     Unforce(Slot),
     ReadVar(Slot),

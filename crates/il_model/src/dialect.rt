@@ -13,8 +13,8 @@ use crate::program::Loc;
 use crate::words::{Mnemonic, extended_mnemonic_from, mnemonic_from};
 use crate::written::{extended_literal, literal};
 
-/// What may stand in a text: the words and literals of every text, or those and REAL, MIN, MAX, the functions and
-/// double words.
+/// What may stand in a text: the words and literals of every text, or those and REAL, bit strings, MIN, MAX, shifts, the
+/// functions and double words.
 #[derive(Clone, Copy, Debug, PartialEq, Eq)]
 pub enum Dialect {
     Plain,

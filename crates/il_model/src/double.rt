@@ -1,11 +1,12 @@
-//! Double words: two words that are one value of 32 bits, the high one first.
+//! Words as bit strings, and double words: two words that are one value of 32 bits, the high one first.
 
 ghost use Rattle.std.specs.Prelude.{◌≡◌, ◌<◌, ◌^◌, IfSome};
 ghost use Rattle.il_model.specs.Doubles.{double_type, pattern_of_words, value_of_pattern, double_value};
 ghost use Rattle.il_model.specs.Doubles.{double_pattern, high_word, low_word};
-ghost use Rattle.il_model.specs.Locations.{double_as, seen_as};
+ghost use Rattle.il_model.specs.Doubles.{word_value};
+ghost use Rattle.il_model.specs.Locations.{double_as, word_as, seen_as};
 
-use crate::program::{DoubleType, Loc};
+use crate::program::{Area, DoubleType, Loc};
 use crate::value::{Ty, Value};
 use il_real::Real;
 
@@ -13,6 +14,13 @@ fn pattern_of_words(high: i16, low: i16) -> u32
     ensures { result ≡ pattern_of_words high low }
 {
     u32::from(high.cast_unsigned()) * 65536 + u32::from(low.cast_unsigned())
+}
+
+/// The WORD that a word is.
+pub fn word_value(word: i16) -> Value
+    ensures { result ≡ word_value word }
+{
+    Value::Word(word.cast_unsigned())
 }
 
 /// The words of a pattern, the high one first.
@@ -34,6 +42,7 @@ impl DoubleType {
             DoubleType::Dint => Ty::Dint,
             DoubleType::Time => Ty::Time,
             DoubleType::Real => Ty::Real,
+            DoubleType::Dword => Ty::Dword,
         }
     }
 
@@ -47,6 +56,7 @@ impl DoubleType {
                 Some(number) => Value::Real(number),
                 None => Value::Real(Real::zero()),
             },
+            DoubleType::Dword => Value::Dword(pattern),
         }
     }
 
@@ -67,6 +77,7 @@ impl DoubleType {
             (DoubleType::Dint, Value::Dint(z)) => Some(z.cast_unsigned()),
             (DoubleType::Time, Value::Time(z)) => Some(z.cast_unsigned()),
             (DoubleType::Real, Value::Real(number)) => Some(number.pattern),
+            (DoubleType::Dword, Value::Dword(bits)) => Some(bits),
             _ => None,
         }
     }
@@ -80,16 +91,29 @@ fn double_as(ty: Ty, own: DoubleType) -> DoubleType
         Ty::Dint => DoubleType::Dint,
         Ty::Time => DoubleType::Time,
         Ty::Real => DoubleType::Real,
-        Ty::Bool | Ty::Int | Ty::Lint => own,
+        Ty::Dword => DoubleType::Dword,
+        Ty::Bool | Ty::Int | Ty::Lint | Ty::Word => own,
     }
 }
 
-/// A location as that of a variable of this type: a double word is DINT, TIME or REAL; any other is as it was.
+/// A word as that of a variable of this type: a WORD is its pattern.
+fn word_as(ty: Ty, area: Area, n: u16) -> Loc
+    ensures { result ≡ word_as ty area n }
+{
+    match ty {
+        Ty::Word => Loc::Pattern(area, n),
+        _ => Loc::Word(area, n),
+    }
+}
+
+/// A location as that of a variable of this type: a double word is DINT, TIME, REAL or DWORD, a word INT or WORD; any
+/// other is as it was.
 pub fn seen_as(ty: Ty, loc: Loc) -> Loc
     ensures { result ≡ seen_as ty loc }
 {
     match loc {
         Loc::Double(area, n, own) => Loc::Double(area, n, double_as(ty, own)),
-        Loc::Bit(_, _) | Loc::Word(_, _) => loc,
+        Loc::Word(area, n) => word_as(ty, area, n),
+        Loc::Bit(_, _) | Loc::Pattern(_, _) => loc,
     }
 }

@@ -30,10 +30,16 @@ pub enum Function {
     DintToTime,
     /// Leaves the current result as it is.
     Move,
+    WordToInt,
+    IntToWord,
+    DwordToDint,
+    DintToDword,
+    WordToDword,
+    DwordToWord,
 }
 
 /// Each function with the word for it.
-pub static FUNCTIONS: [(&[u8], Function); 14] = [
+pub static FUNCTIONS: [(&[u8], Function); 20] = [
     (b"INT_TO_REAL", Function::IntToReal),
     (b"DINT_TO_REAL", Function::DintToReal),
     (b"LINT_TO_REAL", Function::LintToReal),
@@ -48,6 +54,12 @@ pub static FUNCTIONS: [(&[u8], Function); 14] = [
     (b"TIME_TO_DINT", Function::TimeToDint),
     (b"DINT_TO_TIME", Function::DintToTime),
     (b"MOVE", Function::Move),
+    (b"WORD_TO_INT", Function::WordToInt),
+    (b"INT_TO_WORD", Function::IntToWord),
+    (b"DWORD_TO_DINT", Function::DwordToDint),
+    (b"DINT_TO_DWORD", Function::DintToDword),
+    (b"WORD_TO_DWORD", Function::WordToDword),
+    (b"DWORD_TO_WORD", Function::DwordToWord),
 ];
 
 #[tactic(auto, unfolding(crate::specs::Functions::look_function))]
@@ -76,7 +88,7 @@ impl Function {
         requires { 32 ≤ code }
         ensures { result ≡ slice_get function_list (code - 32) }
     {
-        if code >= 46 {
+        if code >= 52 {
             return None;
         }
         match code {
@@ -94,6 +106,12 @@ impl Function {
             43 => Some(Function::TimeToDint),
             44 => Some(Function::DintToTime),
             45 => Some(Function::Move),
+            46 => Some(Function::WordToInt),
+            47 => Some(Function::IntToWord),
+            48 => Some(Function::DwordToDint),
+            49 => Some(Function::DintToDword),
+            50 => Some(Function::WordToDword),
+            51 => Some(Function::DwordToWord),
             _ => unreachable!(),
         }
     }
@@ -117,6 +135,12 @@ impl Function {
             Function::TimeToDint => 43,
             Function::DintToTime => 44,
             Function::Move => 45,
+            Function::WordToInt => 46,
+            Function::IntToWord => 47,
+            Function::DwordToDint => 48,
+            Function::DintToDword => 49,
+            Function::WordToDword => 50,
+            Function::DwordToWord => 51,
         }
     }
 
@@ -139,6 +163,12 @@ impl Function {
             (Function::TimeToDint, Ty::Time) => Some(Ty::Dint),
             (Function::DintToTime, Ty::Dint) => Some(Ty::Time),
             (Function::Move, _) => Some(ty),
+            (Function::WordToInt, Ty::Word) => Some(Ty::Int),
+            (Function::IntToWord, Ty::Int) => Some(Ty::Word),
+            (Function::DwordToDint, Ty::Dword) => Some(Ty::Dint),
+            (Function::DintToDword, Ty::Dint) => Some(Ty::Dword),
+            (Function::WordToDword, Ty::Word) => Some(Ty::Dword),
+            (Function::DwordToWord, Ty::Dword) => Some(Ty::Word),
             _ => None,
         }
     }
@@ -154,6 +184,8 @@ impl Function {
             Value::Lint(z) => self.apply_to_lint(z),
             Value::Time(z) => self.apply_to_time(z),
             Value::Real(r) => self.apply_to_real(r),
+            Value::Word(bits) => self.apply_to_word(bits),
+            Value::Dword(bits) => self.apply_to_double_word(bits),
         }
     }
 
@@ -173,6 +205,7 @@ impl Function {
             Function::IntToReal => Some(real_within(Real::of_whole(z as i64))),
             Function::Abs => Some(within(Ty::Int, i64::from(z.unsigned_abs()))),
             Function::Move => Some(Ok(Value::Int(z))),
+            Function::IntToWord => Some(Ok(Value::Word(z.cast_unsigned()))),
             _ => None,
         }
     }
@@ -185,6 +218,7 @@ impl Function {
             Function::Abs => Some(within(Ty::Dint, i64::from(z.unsigned_abs()))),
             Function::DintToTime => Some(within(Ty::Time, z as i64)),
             Function::Move => Some(Ok(Value::Dint(z))),
+            Function::DintToDword => Some(Ok(Value::Dword(z.cast_unsigned()))),
             _ => None,
         }
     }
@@ -223,6 +257,28 @@ impl Function {
             Function::Abs => Some(real_within(r.magnitude())),
             Function::Sqrt => Some(real_within(r.root())),
             Function::Move => Some(Ok(Value::Real(r))),
+            _ => None,
+        }
+    }
+
+    fn apply_to_word(self, bits: u16) -> Option<Result<Value, Stop>>
+        ensures { result ≡ function_result self (values.Word bits) }
+    {
+        match self {
+            Function::Move => Some(Ok(Value::Word(bits))),
+            Function::WordToInt => Some(Ok(Value::Int(bits.cast_signed()))),
+            Function::WordToDword => Some(Ok(Value::Dword(u32::from(bits)))),
+            _ => None,
+        }
+    }
+
+    fn apply_to_double_word(self, bits: u32) -> Option<Result<Value, Stop>>
+        ensures { result ≡ function_result self (values.Dword bits) }
+    {
+        match self {
+            Function::Move => Some(Ok(Value::Dword(bits))),
+            Function::DwordToDint => Some(Ok(Value::Dint(bits.cast_signed()))),
+            Function::DwordToWord => Some(Ok(Value::Word((bits % 65536) as u16))),
             _ => None,
         }
     }

@@ -18,8 +18,11 @@ pub const BITS: usize = 512;
 /// An area has so many words.
 pub const WORDS: usize = 64;
 
-/// A name has at most so many characters.
+/// A name without dots, and each part of one with dots, has at most so many characters.
 pub const LONGEST_NAME: usize = 32;
+
+/// A name with dots has at most so many bytes.
+pub const LONGEST_DOTTED_NAME: usize = 96;
 
 /// An image that a change of the program brings has at most so many bytes.
 pub const MOST_IMAGE_BYTES: usize = 32768;

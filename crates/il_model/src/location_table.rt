@@ -18,6 +18,7 @@ pub fn is_overlapping(codes: &BTreeSet<usize>, loc: Loc) -> bool
 {
     match loc {
         Loc::Bit(_, _) | Loc::Word(_, _) => codes.contains(&loc.code()),
+        Loc::Pattern(area, n) => codes.contains(&Loc::Word(area, n).code()),
         Loc::Double(area, n, _) => {
             let first = Loc::Word(area, n).code();
             codes.contains(&first) || codes.contains(&(first + 1))
@@ -33,6 +34,9 @@ fn put_parts(codes: &mut BTreeSet<usize>, loc: Loc) -> Result<(), AllocError>
     match loc {
         Loc::Bit(_, _) | Loc::Word(_, _) => {
             codes.insert(loc.code())?;
+        }
+        Loc::Pattern(area, n) => {
+            codes.insert(Loc::Word(area, n).code())?;
         }
         Loc::Double(area, n, _) => {
             let first = Loc::Word(area, n).code();

@@ -1,12 +1,15 @@
 //! Names.
 
-ghost use Rattle.std.specs.Prelude.{◌≡◌, IfOk, List, ℕ};
+ghost use Rattle.std.specs.Prelude.{◌≡◌, ◌<◌, IfOk, IfSome, List, ℕ, length, option_map};
 ghost use Rattle.std.specs.List.{list_all, list_any};
 ghost use Rattle.std.specs.Str.{bytes_eq};
 ghost use Rattle.il_model.specs.Words.{same_name, is_first_byte, is_name_byte, begins_name, begins_with};
 ghost use Rattle.il_model.specs.Words.{is_well_spelled, is_reserved_operator, is_reserved, is_lawful_name};
+ghost use Rattle.il_model.specs.Words.{has_dot, under, name_parts, parts_with, stands_under, split_last, is_part};
 
 use crate::kind::BlockKind;
+use crate::limits::LONGEST_NAME;
+use crate::location::dot;
 use crate::words::mnemonic_from;
 use std::alloc::{AllocError, Global};
 use std::marker::Model;
@@ -145,9 +148,90 @@ pub fn is_reserved(name: &[u8]) -> bool
     is_reserved_operator(name) || BlockKind::of_name(name).is_some() || has_word(&RESERVED, name)
 }
 
+/// Whether a name has a dot, as names of version 3 may.
+pub fn has_dot(name: &[u8]) -> bool
+    ensures { result ≡ has_dot name.now }
+{
+    name.iter().any(|b| *b == b'.')
+}
+
+/// The first part of a name, and what stands behind the dot, where it has one.
+#[tactic(auto, using(crate::proofs::NameParts::first_parts, crate::proofs::NameParts::one_part))]
+pub fn first_part(name: &[u8]) -> (&[u8], Option<&[u8]>)
+    ensures parts { parts_with result.0.now (option_map (λ rest. rest.now) result.1) ≡ name_parts name.now }
+    ensures shorter { IfSome result.1 (λ rest. length rest.now < length name.now) }
+{
+    let before = dot(name);
+    if before < name.len() {
+        (&name[..before], Some(&name[before + 1..]))
+    } else {
+        (name, None)
+    }
+}
+
+/// What stands before the last dot of a name, and behind it; None where it has no dot.
+pub fn split_last(name: &[u8]) -> Option<(&[u8], &[u8])>
+    ensures { option_map (λ x. (x.0.now, x.1.now)) result ≡ split_last name.now }
+{
+    let mut found = None;
+    for (i, b) in name.iter().enumerate() {
+        if *b == b'.' {
+            found = Some(i);
+        }
+    }
+    let at = found?;
+    Some((&name[..at], &name[at + 1..]))
+}
+
+/// A name under another: that one, a dot, and its own.
+pub fn under(alloc: Global, front: &[u8], name: &[u8]) -> Result<Vec<u8>, AllocError>
+    ensures { IfOk result (λ v. v.items ≡ under front.now name.now) }
+{
+    let mut bytes = Vec::from_slice(alloc, front)?;
+    bytes.push(b'.')?;
+    bytes.extend_from_slice(name)?;
+    Ok(bytes)
+}
+
+/// Whether a name stands under another.
+#[tactic(auto, unfolding(crate::specs::Words::stands_under))]
+pub fn stands_under(front: &[u8], name: &[u8]) -> bool
+    ensures { result ≡ stands_under front.now name.now }
+{
+    let mut keys = front;
+    let mut letters = name;
+    while let [k, others @ ..] = keys {
+        match letters {
+            [b, more @ ..] if *b == *k => letters = more,
+            _ => return false,
+        }
+        keys = others;
+    }
+    begins_with(letters, b'.')
+}
+
+fn is_part(part: &[u8]) -> bool
+    ensures { result ≡ is_part part.now }
+{
+    begins_name(part) && has_name_bytes(part) && is_well_spelled(part) && part.len() <= LONGEST_NAME
+}
+
+fn are_parts(name: &[u8]) -> bool
+    ensures { result ≡ list_all is_part (name_parts name.now) }
+{
+    match first_part(name) {
+        (part, Some(rest)) => is_part(part) && are_parts(rest),
+        (part, None) => is_part(part),
+    }
+}
+
 /// Whether a variable, an instance or a label may be called so, in upper case.
 pub fn is_lawful_name(name: &[u8]) -> bool
     ensures { result ≡ is_lawful_name name.now }
 {
-    begins_name(name) && has_name_bytes(name) && is_well_spelled(name) && !is_reserved(name)
+    if has_dot(name) {
+        are_parts(name)
+    } else {
+        is_part(name) && !is_reserved(name)
+    }
 }

@@ -7,10 +7,14 @@ ghost use Rattle.il_model.specs.Codes.{low_op_of, op_of};
 ghost use Rattle.il_model.specs.Values.{ty_of};
 ghost use Rattle.il_model.specs.Operators.{joined_type, numeric_type, operation_result, on_numbers, on_truths, in_type};
 ghost use Rattle.il_model.specs.Operators.{bounded, quotient, remainder, calculation, real_type};
-ghost use Rattle.il_model.specs.Operators.{real_or_overflow, real_quotient, on_reals};
+ghost use Rattle.il_model.specs.Operators.{real_or_overflow, real_quotient, on_reals, bits_type, shift_type, on_bits};
+ghost use Rattle.il_model.specs.Operators.{on_shift};
+ghost use Rattle.std.specs.Int.{w16, w32};
+ghost use Rattle.il_model.specs.declared.value.Value.TheVariants as values;
 ghost use Rattle.std.specs.Prelude.{◌*ℤ◌, int_div, int_rem, pos, ◌≢◌};
 
 use crate::function::Function;
+use crate::shift::Shift;
 use crate::value::{Stop, Ty, Value, make};
 use il_real::Real;
 
@@ -47,6 +51,8 @@ pub enum Op {
     LintToDint,
     Min,
     Max,
+    /// A shift or a rotation of a bit string, by an INT.
+    Shift(Shift),
     /// A standard function of the current result.
     Apply(Function),
 }
@@ -60,14 +66,16 @@ pub struct Modifier {
 }
 
 impl Op {
-    /// The operator of a code. 26 and 27 are the codes of arguments; functions have those from 32.
+    /// The operator of a code. 26 and 27 are the codes of arguments; functions have those from 32, shifts those from 64.
     pub fn of_code(code: u8) -> Option<Op>
         ensures { result ≡ op_of code }
     {
         if code < 32 {
             Op::of_low_code(code)
-        } else {
+        } else if code < 64 {
             Some(Op::Apply(Function::of_code(code)?))
+        } else {
+            Some(Op::Shift(Shift::of_code(code)?))
         }
     }
 
@@ -155,6 +163,7 @@ impl Op {
             Op::LintToDint => 29,
             Op::Min => 30,
             Op::Max => 31,
+            Op::Shift(shift) => shift.code(),
             Op::Apply(function) => function.code(),
         }
     }
@@ -174,11 +183,32 @@ pub fn joined(op: Op, cr: Ty, operand: Ty) -> Option<Ty>
         (Ty::Dint, Ty::Dint) => numeric(op, Ty::Dint),
         (Ty::Lint, Ty::Lint) => numeric(op, Ty::Lint),
         (Ty::Real, Ty::Real) => real(op),
+        (Ty::Word, Ty::Word) | (Ty::Dword, Ty::Dword) => bits(op, cr),
+        (Ty::Word | Ty::Dword, Ty::Int) => shifts(op, cr),
         (Ty::Time, Ty::Time) => match op {
             Op::Add | Op::Sub | Op::Min | Op::Max => Some(Ty::Time),
             Op::Gt | Op::Ge | Op::Eq | Op::Ne | Op::Le | Op::Lt => Some(Ty::Bool),
             _ => None,
         },
+        _ => None,
+    }
+}
+
+fn bits(op: Op, ty: Ty) -> Option<Ty>
+    ensures { result ≡ bits_type op ty }
+{
+    match op {
+        Op::And | Op::Or | Op::Xor => Some(ty),
+        Op::Eq | Op::Ne => Some(Ty::Bool),
+        _ => None,
+    }
+}
+
+fn shifts(op: Op, ty: Ty) -> Option<Ty>
+    ensures { result ≡ shift_type op ty }
+{
+    match op {
+        Op::Shift(_) => Some(ty),
         _ => None,
     }
 }
@@ -217,9 +247,61 @@ pub fn operate(op: Op, cr: Value, operand: Value) -> Option<Result<Value, Stop>>
             Op::Mul | Op::Div | Op::Mod => return None,
             _ => (Ty::Time, a, b),
         },
+        (Value::Word(a), Value::Word(b)) => return words(op, a, b),
+        (Value::Dword(a), Value::Dword(b)) => return double_words(op, a, b),
+        (Value::Word(bits), Value::Int(places)) => return word_and_int(op, bits, places),
+        (Value::Dword(bits), Value::Int(places)) => return double_word_and_int(op, bits, places),
         _ => return None,
     };
     numbers(op, ty, a, b)
+}
+
+/// An operator on two WORDs, or none where it has no row at WORD.
+fn words(op: Op, a: u16, b: u16) -> Option<Result<Value, Stop>>
+    ensures { result ≡ on_bits op values.Word a b }
+{
+    match op {
+        Op::And => Some(Ok(Value::Word(a & b))),
+        Op::Or => Some(Ok(Value::Word(a | b))),
+        Op::Xor => Some(Ok(Value::Word(a ^ b))),
+        Op::Eq => Some(Ok(Value::Bool(a == b))),
+        Op::Ne => Some(Ok(Value::Bool(a != b))),
+        _ => None,
+    }
+}
+
+/// An operator on two DWORDs, or none where it has no row at DWORD.
+fn double_words(op: Op, a: u32, b: u32) -> Option<Result<Value, Stop>>
+    ensures { result ≡ on_bits op values.Dword a b }
+{
+    match op {
+        Op::And => Some(Ok(Value::Dword(a & b))),
+        Op::Or => Some(Ok(Value::Dword(a | b))),
+        Op::Xor => Some(Ok(Value::Dword(a ^ b))),
+        Op::Eq => Some(Ok(Value::Bool(a == b))),
+        Op::Ne => Some(Ok(Value::Bool(a != b))),
+        _ => None,
+    }
+}
+
+/// An operator on a WORD and an INT, or none where it has no row at their types.
+fn word_and_int(op: Op, bits: u16, places: i16) -> Option<Result<Value, Stop>>
+    ensures { result ≡ on_shift op w16 values.Word bits places }
+{
+    match op {
+        Op::Shift(shift) => Some(shift.move_word(bits, places)),
+        _ => None,
+    }
+}
+
+/// An operator on a DWORD and an INT, or none where it has no row at their types.
+fn double_word_and_int(op: Op, bits: u32, places: i16) -> Option<Result<Value, Stop>>
+    ensures { result ≡ on_shift op w32 values.Dword bits places }
+{
+    match op {
+        Op::Shift(shift) => Some(shift.move_double_word(bits, places)),
+        _ => None,
+    }
 }
 
 /// An operator on two truth values, or none where it has no row at BOOL.

@@ -20,6 +20,11 @@ const FIRST_TIME: u16 = 0x600;
 
 const FIRST_REAL: u16 = 0x700;
 
+/// How far its double words that are DWORD do, and its words that are WORD.
+const FIRST_DWORD: u16 = 0x800;
+
+const FIRST_PATTERN: u16 = 0x900;
+
 /// One of the three areas.
 #[derive(Clone, Copy, Debug, PartialEq, Eq)]
 pub enum Area {
@@ -34,20 +39,23 @@ pub enum DoubleType {
     Dint,
     Time,
     Real,
+    Dword,
 }
 
-/// A location: the number of a bit or of a word in an area, or that of the first of two words that are one value, the
-/// high one first, and that value's type. The first of two has an even number.
+/// A location: the number of a bit or of a word in an area, of a word as the pattern of 16 bits that it is (a WORD), or
+/// that of the first of two words that are one value, the high one first, and that value's type. The first of two has an
+/// even number.
 #[derive(Clone, Copy, Debug, PartialEq, Eq)]
 pub enum Loc {
     Bit(Area, u16),
     Word(Area, u16),
+    Pattern(Area, u16),
     Double(Area, u16, DoubleType),
 }
 
 impl Area {
     ghost use Rattle.std.specs.Prelude.{◌≡◌};
-    ghost use Rattle.il_model.specs.CodedOperands.{base_of, double_loc, double_there, area_loc};
+    ghost use Rattle.il_model.specs.CodedOperands.{base_of, double_loc, pattern_loc, double_there, area_loc};
 
     /// The code of the first bit.
     fn base(self) -> u16
@@ -71,7 +79,18 @@ impl Area {
         }
     }
 
-    /// The double word that stands so far behind the first bit.
+    /// The word with this number as a pattern, if there is one.
+    fn pattern(self, n: u16) -> Option<Loc>
+        ensures { result ≡ pattern_loc self n }
+    {
+        if (n as usize) < WORDS {
+            Some(Loc::Pattern(self, n))
+        } else {
+            None
+        }
+    }
+
+    /// The double word or the pattern that stands so far behind the first bit.
     fn double_location(self, n: u16) -> Option<Loc>
         ensures { result ≡ double_there self n }
     {
@@ -81,12 +100,16 @@ impl Area {
             self.double_word(n - FIRST_DINT, DoubleType::Dint)
         } else if n < FIRST_REAL {
             self.double_word(n - FIRST_TIME, DoubleType::Time)
-        } else {
+        } else if n < FIRST_DWORD {
             self.double_word(n - FIRST_REAL, DoubleType::Real)
+        } else if n < FIRST_PATTERN {
+            self.double_word(n - FIRST_DWORD, DoubleType::Dword)
+        } else {
+            self.pattern(n - FIRST_PATTERN)
         }
     }
 
-    /// The bit, the word or the double word that stands so far behind the first bit.
+    /// The location that stands so far behind the first bit.
     fn location(self, n: u16) -> Option<Loc>
         ensures { result ≡ area_loc self n }
     {
@@ -114,6 +137,7 @@ impl DoubleType {
             DoubleType::Dint => FIRST_DINT,
             DoubleType::Time => FIRST_TIME,
             DoubleType::Real => FIRST_REAL,
+            DoubleType::Dword => FIRST_DWORD,
         }
     }
 }
@@ -128,17 +152,19 @@ impl Loc {
         ensures { result ≡ area_of self }
     {
         match self {
-            Loc::Bit(area, _) | Loc::Word(area, _) | Loc::Double(area, _, _) => area,
+            Loc::Bit(area, _) | Loc::Word(area, _) => area,
+            Loc::Pattern(area, _) | Loc::Double(area, _, _) => area,
         }
     }
 
-    /// Whether an instruction can name it: a double word by itself is DINT.
+    /// Whether an instruction can name it: a word by itself is INT, a double word DINT.
     pub fn is_nameable(self) -> bool
         ensures { result ≡ is_nameable self }
     {
         match self {
             Loc::Bit(_, _) | Loc::Word(_, _) | Loc::Double(_, _, DoubleType::Dint) => true,
-            Loc::Double(_, _, DoubleType::Time | DoubleType::Real) => false,
+            Loc::Double(_, _, DoubleType::Time | DoubleType::Real | DoubleType::Dword) => false,
+            Loc::Pattern(_, _) => false,
         }
     }
 
@@ -149,6 +175,7 @@ impl Loc {
         match self {
             Loc::Bit(area, n) => area.base() as usize + n as usize,
             Loc::Word(area, n) => area.base() as usize + (FIRST_WORD as usize + n as usize),
+            Loc::Pattern(area, n) => area.base() as usize + (FIRST_PATTERN as usize + n as usize),
             Loc::Double(area, n, ty) => {
                 area.base() as usize + (ty.first_code() as usize + n as usize)
             }

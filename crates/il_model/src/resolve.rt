@@ -10,7 +10,8 @@ use crate::limits::{BITS, WORDS};
 use crate::location::begins_double;
 use crate::{Area, Field, Loc, Operand, OperandKind, Place, Program, Source, Ty};
 
-/// The type of a location: BOOL for a bit, INT for a word, its own for a double word; none past its area.
+/// The type of a location: BOOL for a bit, INT for a word, WORD for its pattern, its own for a double word; none past its
+/// area.
 pub fn loc_type(loc: Loc) -> Option<Ty>
     ensures { result ≡ loc_type loc }
 {
@@ -22,6 +23,11 @@ pub fn loc_type(loc: Loc) -> Option<Ty>
         },
         Loc::Word(_, n) => if (n as usize) < WORDS {
             Some(Ty::Int)
+        } else {
+            None
+        },
+        Loc::Pattern(_, n) => if (n as usize) < WORDS {
+            Some(Ty::Word)
         } else {
             None
         },

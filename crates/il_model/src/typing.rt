@@ -2,6 +2,7 @@
 
 ghost use Rattle.std.specs.Prelude.{◌≡◌};
 ghost use Rattle.il_model.specs.Settled.{settled_number, first_type};
+ghost use Rattle.il_model.specs.Row.{negatable, not_row};
 ghost use Rattle.il_model.specs.Row.{row, load_row, store_row, set_row, truth_row, call_row, open_row, opened_row};
 ghost use Rattle.il_model.specs.Row.{combine_row, close_row, leave_row, convert_row, function_row};
 
@@ -111,7 +112,7 @@ pub fn row_of(
         Op::Ld => load_types(modifier, kind),
         Op::St => store_types(cr, modifier, kind),
         Op::S | Op::R => set_types(cr, kind),
-        Op::Not => truth_types(cr),
+        Op::Not => not_types(cr),
         Op::Jmp | Op::Cal | Op::Ret if depth != 0 => Err(TypeFault::Unbalanced),
         Op::Jmp => match kind {
             OperandKind::Target => leave_types(cr, modifier),
@@ -135,16 +136,22 @@ pub fn row_of(
     }
 }
 
+/// Whether a value of the type may stand with the letter N or without: with it, where it's a bit string.
+fn takes_letter(negated: bool, ty: Ty) -> bool
+    ensures { result ≡ negatable negated ty }
+{
+    !negated || ty.is_bit_string()
+}
+
 fn load_types(modifier: Modifier, kind: OperandKind) -> Result<Effect, TypeFault>
     ensures { result ≡ load_row modifier.negated kind }
 {
     match kind {
-        OperandKind::Typed(Ty::Bool, _) => Ok(Effect::Sets(Some(Ty::Bool))),
         OperandKind::Typed(ty, _) => {
-            if modifier.negated {
-                Err(TypeFault::TypeMismatch)
-            } else {
+            if takes_letter(modifier.negated, ty) {
                 Ok(Effect::Sets(Some(ty)))
+            } else {
+                Err(TypeFault::TypeMismatch)
             }
         }
         OperandKind::NoField => Err(TypeFault::BadField),
@@ -164,7 +171,7 @@ fn store_types(cr: Option<Ty>, modifier: Modifier, kind: OperandKind) -> Result<
     let Some(c) = cr else {
         return Err(TypeFault::NoCurrentResult);
     };
-    if c != ty || (modifier.negated && ty != Ty::Bool) {
+    if c != ty || !takes_letter(modifier.negated, ty) {
         return Err(TypeFault::TypeMismatch);
     }
     Ok(Effect::Sets(cr))
@@ -193,6 +200,19 @@ fn truth_types(cr: Option<Ty>) -> Result<Effect, TypeFault>
     match cr {
         Some(Ty::Bool) => Ok(Effect::Sets(cr)),
         Some(_) => Err(TypeFault::TypeMismatch),
+        None => Err(TypeFault::NoCurrentResult),
+    }
+}
+
+fn not_types(cr: Option<Ty>) -> Result<Effect, TypeFault>
+    ensures { result ≡ not_row cr }
+{
+    match cr {
+        Some(ty) => if ty.is_bit_string() {
+            Ok(Effect::Sets(cr))
+        } else {
+            Err(TypeFault::TypeMismatch)
+        },
         None => Err(TypeFault::NoCurrentResult),
     }
 }
@@ -232,7 +252,7 @@ fn close_types(cr: Option<Ty>, top: Option<Held>) -> Result<Effect, TypeFault>
     let Some(c) = cr else {
         return Err(TypeFault::NoCurrentResult);
     };
-    if held.negated && c != Ty::Bool {
+    if !takes_letter(held.negated, c) {
         return Err(TypeFault::TypeMismatch);
     }
     match joined(held.op, held.ty, c) {
@@ -328,7 +348,7 @@ fn combine_types(
     let OperandKind::Typed(ty, _) = kind else {
         return Err(TypeFault::TypeMismatch);
     };
-    if modifier.negated && ty != Ty::Bool {
+    if !takes_letter(modifier.negated, ty) {
         return Err(TypeFault::TypeMismatch);
     }
     match joined(op, c, ty) {
@@ -364,6 +384,7 @@ pub fn settle(cr: Option<Ty>, op: Op, opens: bool, z: i32) -> Option<Value>
 {
     let wanted = match op {
         Op::Ld => Some(first_type(z)),
+        Op::Shift(_) => Some(Ty::Int),
         _ => if opens { Some(first_type(z)) } else { cr },
     };
     make_bare(wanted?, z as i64)

@@ -1,7 +1,9 @@
 //! Types and values.
 
-ghost use Rattle.std.specs.Prelude.{◌≡◌};
-ghost use Rattle.il_model.specs.Values.{ty_of, zero_of, number_of, real_made, typed_value, bare_value};
+ghost use Rattle.std.specs.Prelude.{◌≡◌, ◌^◌};
+ghost use Rattle.il_model.specs.Values.{ty_of, zero_of, number_of, real_made, bits_made, typed_value, bare_value};
+ghost use Rattle.il_model.specs.Values.{is_bit_string};
+ghost use Rattle.il_model.specs.declared.value.Value.TheVariants as values;
 
 use il_real::Real;
 
@@ -14,6 +16,8 @@ pub enum Ty {
     Time,
     Lint,
     Real,
+    Word,
+    Dword,
 }
 
 /// A value of a type. A duration counts milliseconds.
@@ -25,6 +29,8 @@ pub enum Value {
     Time(i32),
     Lint(i64),
     Real(Real),
+    Word(u16),
+    Dword(u32),
 }
 
 /// Why a run stops.
@@ -54,7 +60,7 @@ impl Stop {
 }
 
 impl Value {
-    /// FALSE, 0, no time, or 0.0.
+    /// FALSE, 0, no time, 0.0, or no bit.
     pub fn zero(ty: Ty) -> Value
         ensures { result ≡ zero_of ty }
     {
@@ -65,6 +71,8 @@ impl Value {
             Ty::Time => Value::Time(0),
             Ty::Lint => Value::Lint(0),
             Ty::Real => Value::Real(Real::zero()),
+            Ty::Word => Value::Word(0),
+            Ty::Dword => Value::Dword(0),
         }
     }
 
@@ -79,10 +87,12 @@ impl Value {
             Value::Time(_) => Ty::Time,
             Value::Lint(_) => Ty::Lint,
             Value::Real(_) => Ty::Real,
+            Value::Word(_) => Ty::Word,
+            Value::Dword(_) => Ty::Dword,
         }
     }
 
-    /// The whole number of a value; that of a REAL is its pattern.
+    /// The whole number of a value; that of a REAL, of a WORD and of a DWORD is its pattern.
     pub fn number(self) -> i64
         ensures { result ≡ number_of self }
     {
@@ -93,7 +103,43 @@ impl Value {
             Value::Time(z) => z as i64,
             Value::Lint(z) => z,
             Value::Real(r) => r.pattern as i64,
+            Value::Word(bits) => i64::from(bits),
+            Value::Dword(bits) => i64::from(bits),
         }
+    }
+}
+
+impl Ty {
+    /// Whether it's a bit string: of one bit, of 16 or of 32 (IEC 61131-3:2003, 2.3.2).
+    pub fn is_bit_string(self) -> bool
+        ensures { result ≡ is_bit_string self }
+    {
+        match self {
+            Ty::Bool | Ty::Word | Ty::Dword => true,
+            Ty::Int | Ty::Dint | Ty::Time | Ty::Lint | Ty::Real => false,
+        }
+    }
+}
+
+/// The WORD of a pattern, if that has 16 bits.
+fn make_word(z: i64) -> Option<Value>
+    ensures { result ≡ bits_made (2 ^ 16) values.Word z }
+{
+    if 0 <= z && z < 65536 {
+        Some(Value::Word(z as u16))
+    } else {
+        None
+    }
+}
+
+/// The DWORD of a pattern, if that has 32 bits.
+fn make_dword(z: i64) -> Option<Value>
+    ensures { result ≡ bits_made (2 ^ 32) values.Dword z }
+{
+    if 0 <= z && z < 4294967296 {
+        Some(Value::Dword(z as u32))
+    } else {
+        None
     }
 }
 
@@ -156,6 +202,8 @@ pub fn make(ty: Ty, z: i64) -> Option<Value>
         }
         Ty::Lint => Some(Value::Lint(z)),
         Ty::Real => make_real(z),
+        Ty::Word => make_word(z),
+        Ty::Dword => make_dword(z),
     }
 }
 

@@ -4,6 +4,7 @@ ghost use Rattle.std.specs.Prelude.{◌≡◌, map};
 ghost use Rattle.il_model.specs.Words.{upper, spells, look, mnemonic_of, extended_mnemonic_of};
 
 use crate::op::{Modifier, Op};
+use crate::shift::Shift;
 
 /// An operator as it is written in one word: the operator and its letters N and C. A parenthesis is no part of the
 /// word.
@@ -81,9 +82,13 @@ pub static MNEMONICS: [(&[u8], Op, Modifier); 39] = [
 ];
 
 /// The operator words that extended texts have besides.
-pub static EXTENDED_MNEMONICS: [(&[u8], Op, Modifier); 2] = [
+pub static EXTENDED_MNEMONICS: [(&[u8], Op, Modifier); 6] = [
     (b"MIN", Op::Min, PLAIN),
     (b"MAX", Op::Max, PLAIN),
+    (b"SHL", Op::Shift(Shift::Left), PLAIN),
+    (b"SHR", Op::Shift(Shift::Right), PLAIN),
+    (b"ROL", Op::Shift(Shift::RotateLeft), PLAIN),
+    (b"ROR", Op::Shift(Shift::RotateRight), PLAIN),
 ];
 
 /// A byte, a small letter as its capital one.

@@ -4,6 +4,8 @@ ghost use Rattle.std.specs.Prelude.{◌≡◌, ◌≤◌, ◌<◌, ◌^◌, leng
 ghost use Rattle.il_model.specs.Literals.{held_integer, positive, minus, signed_by, is_no_hash, hash_at, based_by};
 ghost use Rattle.il_model.specs.Literals.{whole_by, time_by, truth_literal, typed_literal, bare_literal};
 ghost use Rattle.il_model.specs.Literals.{prefixed_literal, is_word, literal_by, literal_of, has_point, typed_real};
+ghost use Rattle.il_model.specs.declared.value.Ty.TheVariants as types;
+ghost use Rattle.il_model.specs.Literals.{integer_of};
 ghost use Rattle.il_model.specs.Literals.{extended_prefixed, extended_plain, extended_literal_of};
 ghost use Rattle.il_real.specs.Literals.{real_literal};
 ghost use Rattle.il_model.specs.Values.{typed_value};
@@ -194,11 +196,29 @@ fn has_point(bytes: &[u8]) -> bool
     bytes.iter().any(|b| *b == b'.')
 }
 
+/// A WORD that a text is, without its type.
+fn word_literal(bytes: &[u8]) -> Option<Literal>
+    ensures { result ≡ typed_literal types.Word (whole_by integer_of bytes.now) }
+{
+    typed_literal(Ty::Word, whole(bytes))
+}
+
+/// A DWORD that a text is, without its type.
+fn double_word_literal(bytes: &[u8]) -> Option<Literal>
+    ensures { result ≡ typed_literal types.Dword (whole_by integer_of bytes.now) }
+{
+    typed_literal(Ty::Dword, whole(bytes))
+}
+
 fn extended_prefixed(word: &[u8], rest: &[u8], bytes: &[u8]) -> Option<Literal>
     ensures { result ≡ extended_prefixed word.now rest.now bytes.now }
 {
     if is_spelled(b"REAL", word) {
         real(rest)
+    } else if is_spelled(b"WORD", word) {
+        word_literal(rest)
+    } else if is_spelled(b"DWORD", word) {
+        double_word_literal(rest)
     } else {
         literal(bytes)
     }
@@ -214,8 +234,8 @@ fn extended_plain(bytes: &[u8]) -> Option<Literal>
     }
 }
 
-/// The literal that a text is in an extended text: a REAL, which has a point, with `REAL#` before it or not, or one of
-/// every text. None where it is none.
+/// The literal that a text is in an extended text: a REAL, which has a point, with `REAL#` before it or not, a bit string
+/// behind `WORD#` or `DWORD#`, or one of every text. None where it is none.
 pub fn extended_literal(bytes: &[u8]) -> Option<Literal>
     ensures { result ≡ extended_literal_of bytes.now }
 {

@@ -7,10 +7,10 @@ use Rattle.il_loader.proofs.reading.labels_of.Goals as goal
 pub returns-in_err-one : goal.returns-in_err-one
 returns-in_err-one c =
     let p = err_from_is_err_and c.from_residual.result c.from_residual.ensures.1 in
-    rw (p.1, p.2) (ends c.in_err-one.field-0.0 (mark_at c.args.total) c.args.count c.loop.counter c.loop.seen c.loop.rest.now (items_from (mark_at c.args.total) c.args.count [] c.args.bytes.now) c.loop-test.true c.in_err-one.ensures c.loop.invariant)
+    rw (p.1, p.2) (ends c.in_err-one.field-0.0 (mark_at c.args.version c.args.total) c.args.count c.loop.counter c.loop.seen c.loop.rest.now (items_from (mark_at c.args.version c.args.total) c.args.count [] c.args.bytes.now) c.loop-test.true c.in_err-one.ensures c.loop.invariant)
 
 pub loop-preserved : goal.loop-preserved
-loop-preserved c = rw c.in_ok-seen.ensures (goes_on (mark_at c.args.total) c.args.count c.loop.counter c.loop.seen c.loop.rest.now c.in_ok-one.one c.in_ok-one.after.now (items_from (mark_at c.args.total) c.args.count [] c.args.bytes.now) c.loop-test.true c.in_ok-one.ensures c.loop.invariant)
+loop-preserved c = rw c.in_ok-seen.ensures (goes_on (mark_at c.args.version c.args.total) c.args.count c.loop.counter c.loop.seen c.loop.rest.now c.in_ok-one.one c.in_ok-one.after.now (items_from (mark_at c.args.version c.args.total) c.args.count [] c.args.bytes.now) c.loop-test.true c.in_ok-one.ensures c.loop.invariant)
 
 pub returns : goal.returns
-returns c = is_done (mark_at c.args.total) c.args.count c.loop.counter c.loop.seen c.loop.rest.now (items_from (mark_at c.args.total) c.args.count [] c.args.bytes.now) c.loop-test.false c.loop.invariant
+returns c = is_done (mark_at c.args.version c.args.total) c.args.count c.loop.counter c.loop.seen c.loop.rest.now (items_from (mark_at c.args.version c.args.total) c.args.count [] c.args.bytes.now) c.loop-test.false c.loop.invariant

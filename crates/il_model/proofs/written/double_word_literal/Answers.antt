@@ -1,0 +1,8 @@
+use Rattle.std.proofs.Common.{ap, ◌∙◌}
+use Rattle.il_model.specs.declared.value.Ty.TheVariants as types
+use Rattle.il_model.specs.Literals.{typed_literal}
+use Rattle.il_model.proofs.HeldNumbers.{double_word_whole}
+use Rattle.il_model.proofs.written.double_word_literal.Goals as goal
+
+pub returns : goal.returns
+returns c = c.typed_literal.ensures ∙ ap (typed_literal types.Dword) c.whole.ensures ∙ double_word_whole c.args.bytes.now
