@@ -1,12 +1,15 @@
 -- A name in capital letters is a lawful one, where it is not reserved.
-use Rattle.std.proofs.Common.{◌≡◌, ℕ, ◌-◌, ◌<◌, ◌≤◌, Bool, true, false, eqb, leb, List, [], ◌∷◌, length, refl, arith, ◌&&◌, ◌||◌}
-use Rattle.std.specs.List.{list_all}
+use Rattle.std.proofs.Common.{◌≡◌, ℕ, ◌-◌, ◌<◌, ◌≤◌, Bool, true, false, cond, eqb, leb, List, [], ◌∷◌, map, length, refl, sym, ap, subst, ◌∙◌, arith, ◌&&◌, ◌||◌}
+use Rattle.std.specs.List.{AllByRecursion, list_all, list_any}
 use Rattle.std.proofs.lemmas.Bool.{leb-true, le-leb, ne_eqb}
 use Rattle.std.proofs.Math.ListN.{length-map}
 use Rattle.il_model.specs.Words.{is_first_byte, is_name_byte, begins_name, begins_with, is_well_spelled, is_reserved}
-use Rattle.il_model.specs.Words.{is_lawful_name, upper}
-use Rattle.il_reader.specs.Tokens.{is_letter_byte, is_word_byte, is_within}
-use Rattle.il_reader.specs.Words.{IsWordText, begins_letter}
+use Rattle.il_model.specs.declared.dialect.Dialect.{Dialect}
+use Rattle.il_model.specs.declared.dialect.Dialect.TheVariants as dialects
+use Rattle.il_model.specs.Words.{is_lawful_name, is_dot, has_dot, onto_first, name_parts, is_part, upper}
+use Rattle.il_reader.specs.Tokens.{is_letter_byte, is_word_byte, is_within, begins_letter}
+use Rattle.il_reader.specs.Words.{IsWordText, IsNameText}
+use Rattle.il_reader.proofs.NameRuns.{or_left, or_right, plain_parts}
 use Rattle.il_declarations.specs.Resolution.{capitals}
 
 and_true : (a b : Bool) → (a && b) ≡ true → (a ≡ true) × (b ≡ true)
@@ -94,13 +97,75 @@ begins_all : (w : List ℕ) → begins_letter w ≡ true → begins_name (capita
 begins_all [] e = absurd cc
 begins_all (b ∷ bs) e = letter_first b e
 
-pub capitals_lawful : (w : List ℕ) → IsWordText w → is_reserved (capitals w) ≡ false → is_lawful_name (capitals w) ≡ true
-capitals_lawful w is free =
-    rw (begins_all w is.begins, names_all w is.bytes, spelled-capitals w, is.spelled, free) refl
+-- ---- names with dots
 
-pub capitals_length : (w : List ℕ) → IsWordText w → (0 < length (capitals w)) × (length (capitals w) < 33)
-capitals_length w is =
+dot_kept : (b : ℕ) → is_dot (upper b) ≡ is_dot b
+dot_kept b = chosen (is_within 97 122 b) refl
+  where
+    chosen : (t : Bool) → is_within 97 122 b ≡ t → eqb (upper b) 46 ≡ eqb b 46
+    chosen true small =
+        let w = within 97 122 b small in
+        let a : eqb (b - 32) 46 ≡ false = ne_eqb (b - 32) 46 (λ e. omega (arith, e, w.0)) in
+        let c : eqb b 46 ≡ false = ne_eqb b 46 (λ e. omega (arith, e, w.0)) in
+        rw (upper_small b small, a, c) refl
+    chosen false other = rw (upper_other b other) refl
+
+onto_kept : (b : ℕ) (ps : List (List ℕ)) → onto_first (upper b) (map capitals ps) ≡ map capitals (onto_first b ps)
+onto_kept b [] = refl
+onto_kept b (p ∷ ps) = refl
+
+-- the parts of a name in capital letters are its parts in capital letters
+parts_kept : (w : List ℕ) → name_parts (capitals w) ≡ map capitals (name_parts w)
+unfolding name_parts
+parts_kept [] = refl
+parts_kept (b ∷ bs) = rw (dot_kept b, parts_kept bs) (by_test (is_dot b))
+  where
+    by_test : (c : Bool) → cond c ([] ∷ map capitals (name_parts bs)) (onto_first (upper b) (map capitals (name_parts bs))) ≡ map capitals (cond c ([] ∷ name_parts bs) (onto_first b (name_parts bs)))
+    by_test true = refl
+    by_test false = onto_kept b (name_parts bs)
+
+word_part : (w : List ℕ) → IsWordText w → is_part (capitals w) ≡ true
+word_part w is =
+    let short : leb (length (capitals w)) 32 ≡ true = le-leb (length (capitals w)) 32 (let e = length-map w upper in let le = is.short in omega (arith, e, le)) in
+    rw (begins_all w is.begins, names_all w is.bytes, spelled-capitals w, is.spelled, short) refl
+
+all_parts : (ps : List (List ℕ)) → AllByRecursion IsWordText ps → list_all is_part (map capitals ps) ≡ true
+all_parts [] all = refl
+all_parts (p ∷ ps) all = rw (word_part p all.0, all_parts ps all.1) refl
+
+name_words : (dialect : Dialect) (w : List ℕ) → IsNameText dialect w → AllByRecursion IsWordText (name_parts w)
+name_words dialects.Plain w is = subst (λ (ps : List (List ℕ)). AllByRecursion IsWordText ps) (sym (plain_parts w is.bytes)) (is, tt)
+name_words dialects.Extended w is = is.0
+
+one_alone : (v : List ℕ) → has_dot v ≡ false → name_parts v ≡ v ∷ []
+unfolding name_parts
+one_alone [] e = refl
+one_alone (b ∷ bs) e = rw (or_left (is_dot b) (list_any is_dot bs) e) (ap (onto_first b) (one_alone bs (or_right (is_dot b) (list_any is_dot bs) e)))
+
+pub capitals_lawful : (dialect : Dialect) (w : List ℕ) → IsNameText dialect w → is_reserved (capitals w) ≡ false → is_lawful_name (capitals w) ≡ true
+capitals_lawful dialect w is free = by_dot (has_dot (capitals w)) refl
+  where
+    parts : list_all is_part (name_parts (capitals w)) ≡ true
+    parts = ap (list_all is_part) (parts_kept w) ∙ all_parts (name_parts w) (name_words dialect w is)
+
+    by_dot : (d : Bool) → has_dot (capitals w) ≡ d → is_lawful_name (capitals w) ≡ true
+    by_dot true e = rw e parts
+    by_dot false e =
+        let alone : is_part (capitals w) ≡ true = (and_true (is_part (capitals w)) true (ap (list_all is_part) (sym (one_alone (capitals w) e)) ∙ parts)).0 in
+        rw (e, alone, free) refl
+
+some_name : (w : List ℕ) → AllByRecursion IsWordText (name_parts w) → 0 < length w
+unfolding name_parts
+some_name [] all = absurd (let some = all.0.some in omega (arith, some))
+some_name (b ∷ bs) all = omega arith
+
+pub capitals_length : (dialect : Dialect) (w : List ℕ) → IsNameText dialect w → (0 < length (capitals w)) × (length (capitals w) ≤ 96)
+capitals_length dialect w is =
     let e = length-map w upper in
-    let some = is.some in
-    let short = is.short in
+    let some = some_name w (name_words dialect w is) in
+    let short = name_short dialect w is in
     (omega (arith, e, some), omega (arith, e, short))
+  where
+    name_short : (dialect : Dialect) (w : List ℕ) → IsNameText dialect w → length w ≤ 96
+    name_short dialects.Plain w is = let le = is.short in omega (arith, le)
+    name_short dialects.Extended w is = is.1

@@ -25,25 +25,25 @@ use Rattle.il_declarations.specs.declared.variables.DeclaredType.TheVariants.{El
 use Rattle.il_declarations.specs.declared.fault.DeclKind.TheVariants as kinds
 use Rattle.il_declarations.specs.declared.fault.FaultAt.{FaultAt}
 use Rattle.il_declarations.specs.Resolution.{capitals, declared_type, suits, place_as, written_value}
-use Rattle.il_declarations.specs.Walk.{◌>>=◌, each, refused, nothing, has_name, has_instance, is_full, new_name, free_loc, free_location, found_type, known_type, fitted, elementary_value, first_value, planned_value, with_declared, plan_of, declare_name, declare_located, declare_listed, declare_by, declare, declare_block}
+use Rattle.il_declarations.specs.Walk.{◌>>=◌, each, refused, nothing, has_name, has_instance, is_shadowed, is_full, new_name, free_loc, free_location, found_type, known_type, fitted, elementary_value, first_value, planned_value, with_declared, plan_of, declare_name, declare_located, declare_listed, declare_by, declare, declare_block}
 use Rattle.il_declarations.specs.Declaring.{DeclaredName, BlockDeclaration, named_in, other_names, names_in, declarations_in, declarations_of, type_in, written_location, start_of, variable_by, variable_of, is_occupied}
 use Rattle.il_declarations.specs.TextFaults.{is_overlapping}
 use Rattle.il_declarations.proofs.FaultList.{when, beside, name_faults, place_faults, location_faults, start_faults, declaration_faults, faults_of_declarations}
 use Rattle.il_declarations.proofs.Agreeing.{Agrees, done, ok_is, then_agrees, made_agrees, test_agrees, last_agrees, each_agrees, each_kept, each_flat, bind_ok, bind_assoc}
-use Rattle.il_declarations.proofs.Names.{planned, planned_by, planned_start, planned_same, made, declared_known, room_known, place_known, one_more, start_planned}
+use Rattle.il_declarations.proofs.Names.{planned, planned_by, planned_start, planned_same, made, taken_known, room_known, place_known, one_more, start_planned}
 
 -- ---- one name
 
 new_agrees : (dialect : Dialect) → (names : List DeclaredName) (d : BlockDeclaration) (t : Token) → Agrees (new_name (type_in dialect d.text) (made dialect names) t) (name_faults dialect names (named_in d t))
 unfolding new_name
 new_agrees dialect names d t =
-    test_agrees _ _ (declared_known dialect names (capitals t.text)) kinds.Duplicate t.left _ _
+    test_agrees _ _ (taken_known dialect names (named_in d t)) kinds.Duplicate t.left _ _
     (test_agrees (is_reserved (capitals t.text)) _ refl kinds.ReservedName t.left _ _
     (last_agrees _ _ (room_known dialect names (type_in dialect d.text)) kinds.TooMany t.left (capitals t.text)))
 
 new_gives : (type : Option DeclaredType) (known : Declarations) (t : Token) (name : List ℕ) → new_name type known t ≡ Ok name → capitals t.text ≡ name
 unfolding new_name
-new_gives type known t name e = chosen (has_name known (capitals t.text) || has_instance known (capitals t.text)) (is_reserved (capitals t.text)) (is_full type known) e
+new_gives type known t name e = chosen ((has_name known (capitals t.text) || has_instance known (capitals t.text)) || is_shadowed type known (capitals t.text)) (is_reserved (capitals t.text)) (is_full type known) e
   where
     chosen : (a b c : Bool) → cond a (refused kinds.Duplicate t) (cond b (refused kinds.ReservedName t) (cond c (refused kinds.TooMany t) (Ok (capitals t.text)))) ≡ Ok name → capitals t.text ≡ name
     chosen true b c h = absurd cc

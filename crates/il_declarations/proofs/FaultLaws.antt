@@ -26,7 +26,7 @@ use Rattle.il_declarations.specs.declared.fault.DeclError.{DeclError}
 use Rattle.il_declarations.specs.declared.fault.DeclError.TheVariants as errors
 use Rattle.il_declarations.specs.Resolution.{Answers}
 use Rattle.il_declarations.specs.Walk.{program_at, told, resolution_of}
-use Rattle.il_declarations.specs.Declaring.{arguments_behind, IsArgumentOf, IsOperationOf, IsBehindLabel, IsInstructionOf, IsProgramOf}
+use Rattle.il_declarations.specs.Declaring.{DeclaredName, names_of, arguments_behind, IsArgumentOf, IsOperationOf, IsBehindLabel, IsInstructionOf, IsProgramOf}
 use Rattle.il_declarations.proofs.FaultList.{faults_of, Among}
 use Rattle.il_declarations.proofs.FaultRules.{had, listed}
 use Rattle.il_declarations.specs.TextFaults.{HasFault}
@@ -45,8 +45,8 @@ operand_is x y e = cc
 abbrev argument : List ℕ → Side → Operand → Argument
 argument field side operand = record { field = field; side = side; operand = operand }
 
-one_argument : (dialect : Dialect) → (a : ArgumentText) (x y : Argument) → IsArgumentOf dialect a x → IsArgumentOf dialect a y → x ≡ y
-one_argument dialect a x y h k =
+one_argument : (dialect : Dialect) (names : List DeclaredName) → (a : ArgumentText) (x y : Argument) → IsArgumentOf dialect names a x → IsArgumentOf dialect names a y → x ≡ y
+one_argument dialect names a x y h k =
     ap (λ (f : List ℕ). argument f x.side x.operand) (h.field ∙ sym k.field)
     ∙ ap (λ (s : Side). argument y.field s x.operand) (h.side ∙ sym k.side)
     ∙ ap (λ (o : Operand). argument y.field y.side o) (operand_is x.operand y.operand (sym h.operand ∙ k.operand))
@@ -71,17 +71,17 @@ same_instr x y l o m p a =
     ∙ ap (λ (w : Operand). instr y.label y.op y.modifier w x.arguments) p
     ∙ ap (λ (w : List Argument). instr y.label y.op y.modifier y.operand w) a
 
-one_operation : (dialect : Dialect) → (o : OperationText) (x y : Instr) → x.label ≡ y.label → IsOperationOf dialect o x → IsOperationOf dialect o y → x ≡ y
-one_operation dialect o x y l h k =
-    same_instr x y l (h.op ∙ sym k.op) (h.modifier ∙ sym k.modifier) (operand_is x.operand y.operand (sym h.operand ∙ k.operand)) (one_list (IsArgumentOf dialect) (one_argument dialect) (arguments_behind o.behind) x.arguments y.arguments h.arguments k.arguments)
+one_operation : (dialect : Dialect) (names : List DeclaredName) → (o : OperationText) (x y : Instr) → x.label ≡ y.label → IsOperationOf dialect names o x → IsOperationOf dialect names o y → x ≡ y
+one_operation dialect names o x y l h k =
+    same_instr x y l (h.op ∙ sym k.op) (h.modifier ∙ sym k.modifier) (operand_is x.operand y.operand (sym h.operand ∙ k.operand)) (one_list (IsArgumentOf dialect names) (one_argument dialect names) (arguments_behind o.behind) x.arguments y.arguments h.arguments k.arguments)
 
-one_behind : (dialect : Dialect) → (o : Option OperationText) (x y : Instr) → x.label ≡ y.label → IsBehindLabel dialect o x → IsBehindLabel dialect o y → x ≡ y
-one_behind dialect None x y l h k = same_instr x y l (h.op ∙ sym k.op) (h.modifier ∙ sym k.modifier) (h.operand ∙ sym k.operand) (h.arguments ∙ sym k.arguments)
-one_behind dialect (Some o) x y l h k = one_operation dialect o x y l h k
+one_behind : (dialect : Dialect) (names : List DeclaredName) → (o : Option OperationText) (x y : Instr) → x.label ≡ y.label → IsBehindLabel dialect names o x → IsBehindLabel dialect names o y → x ≡ y
+one_behind dialect names None x y l h k = same_instr x y l (h.op ∙ sym k.op) (h.modifier ∙ sym k.modifier) (h.operand ∙ sym k.operand) (h.arguments ∙ sym k.arguments)
+one_behind dialect names (Some o) x y l h k = one_operation dialect names o x y l h k
 
-one_instruction : (dialect : Dialect) → (l : LineText) (x y : Instr) → IsInstructionOf dialect l x → IsInstructionOf dialect l y → x ≡ y
-one_instruction dialect (Labelled t o) x y h k = one_behind dialect o x y (h.0 ∙ sym k.0) h.1 k.1
-one_instruction dialect (Plain o) x y h k = one_operation dialect o x y (h.0 ∙ sym k.0) h.1 k.1
+one_instruction : (dialect : Dialect) (names : List DeclaredName) → (l : LineText) (x y : Instr) → IsInstructionOf dialect names l x → IsInstructionOf dialect names l y → x ≡ y
+one_instruction dialect names (Labelled t o) x y h k = one_behind dialect names o x y (h.0 ∙ sym k.0) h.1 k.1
+one_instruction dialect names (Plain o) x y h k = one_operation dialect names o x y (h.0 ∙ sym k.0) h.1 k.1
 
 abbrev text : List Variable → List Instance → List Instr → Program
 text vs xs code = record { variables = vs; instances = xs; code = code }
@@ -90,7 +90,7 @@ pub one_program : (dialect : Dialect) → (p : ProgramText) (P Q : Program) → 
 one_program dialect p P Q h k =
     ap (λ (vs : List Variable). text vs P.instances P.code) (h.variables ∙ sym k.variables)
     ∙ ap (λ (xs : List Instance). text Q.variables xs P.code) (h.instances ∙ sym k.instances)
-    ∙ ap (λ (code : List Instr). text Q.variables Q.instances code) (one_list (IsInstructionOf dialect) (one_instruction dialect) p.lines P.code Q.code h.code k.code)
+    ∙ ap (λ (code : List Instr). text Q.variables Q.instances code) (one_list (IsInstructionOf dialect (names_of p)) (one_instruction dialect (names_of p)) p.lines P.code Q.code h.code k.code)
 
 -- ---- faults
 

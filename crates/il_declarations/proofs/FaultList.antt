@@ -1,10 +1,10 @@
 -- The faults of a text as one list, in the order of the text.
-use Rattle.std.specs.Prelude.{◌≡◌, ◌⊎◌, ℕ, List, [], ◌∷◌, ◌++◌, length, Option, Some, None, is_none, Bool, not, nat_le, if◌then◌else◌}
+use Rattle.std.specs.Prelude.{◌≡◌, ◌⊎◌, ℕ, List, [], ◌∷◌, ◌++◌, length, Option, Some, None, is_none, Bool, not, nat_le, if◌then◌else◌, ◌||◌}
 use Rattle.std.specs.List.{flat_map}
 use Rattle.il_model.specs.declared.dialect.Dialect.{Dialect}
 use Rattle.il_model.specs.Dialects.{literal_in, location_in}
 use Rattle.il_model.specs.declared.program.Loc.{Loc}
-use Rattle.il_model.specs.Words.{is_reserved}
+use Rattle.il_model.specs.Words.{is_reserved, split_last}
 use Rattle.il_reader.specs.Tokens.{Token}
 use Rattle.il_reader.specs.Grammar.{OperandText, Constant, Direct, Named, Field, BehindText, Nothing, Given, Target, Opened, Called, OperationText, LineText, Labelled, Plain, NamesText, Located, More, ProgramText}
 use Rattle.il_declarations.specs.declared.variables.DeclaredType.{DeclaredType}
@@ -12,8 +12,8 @@ use Rattle.il_declarations.specs.declared.fault.DeclKind.{DeclKind}
 use Rattle.il_declarations.specs.declared.fault.DeclKind.TheVariants as kinds
 use Rattle.il_declarations.specs.declared.fault.FaultAt.{FaultAt}
 use Rattle.il_declarations.specs.Resolution.{capitals}
-use Rattle.il_declarations.specs.Declaring.{DeclaredName, BlockDeclaration, names_in, declarations_of, names_of, type_in, written_location, is_declared, names_variable, names_instance, arguments_behind}
-use Rattle.il_declarations.specs.TextFaults.{has_no_room, is_no_place, is_overlapping, is_bad_start}
+use Rattle.il_declarations.specs.Declaring.{DeclaredName, BlockDeclaration, names_in, declarations_of, names_of, type_in, written_location, is_declared, names_variable, names_instance, arguments_behind, is_shadowed}
+use Rattle.il_declarations.specs.TextFaults.{has_no_room, is_no_place, is_overlapping, is_bad_start, names_field}
 
 -- ---- the faults of declarations
 
@@ -27,7 +27,7 @@ beside f before (x ∷ xs) = f before x ++ beside f (before ++ x ∷ []) xs
 
 abbrev pub name_faults : (dialect : Dialect) → List DeclaredName → DeclaredName → List FaultAt
 name_faults dialect before x =
-    when (is_declared before (capitals x.name.text)) kinds.Duplicate x.name.left
+    when (is_declared before (capitals x.name.text) || is_shadowed dialect before x) kinds.Duplicate x.name.left
     ++ (when (is_reserved (capitals x.name.text)) kinds.ReservedName x.name.left
     ++ when (has_no_room dialect (type_in dialect x.by) before) kinds.TooMany x.name.left)
 
@@ -58,7 +58,7 @@ faults_of_declarations dialect ds = beside (λ before d. declaration_faults dial
 abbrev pub operand_faults : (dialect : Dialect) → List DeclaredName → OperandText → List FaultAt
 operand_faults dialect names (Constant t) = when (is_none (literal_in dialect t.text)) kinds.UnknownName t.left
 operand_faults dialect names (Direct t) = when (is_none (location_in dialect t.text)) kinds.BadLocation t.left
-operand_faults dialect names (Named t) = when (not (names_variable dialect names (capitals t.text))) kinds.UnknownName t.left
+operand_faults dialect names (Named t) = when (not (names_variable dialect names (capitals t.text) || names_field dialect names (split_last (capitals t.text)))) kinds.UnknownName t.left
 operand_faults dialect names (Field t f) = when (not (names_instance dialect names (capitals t.text))) kinds.UnknownName t.left
 
 abbrev pub behind_faults : (dialect : Dialect) → List DeclaredName → BehindText → List FaultAt

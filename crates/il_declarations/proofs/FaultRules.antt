@@ -1,5 +1,5 @@
 -- The faults of the list are those that a text has.
-use Rattle.std.proofs.Common.{◌≡◌, ◌⊎◌, inl, inr, ℕ, Bool, true, false, List, [], ◌∷◌, ◌++◌, length, map, Option, Some, None, refl, sym, ap, subst, ◌∙◌, append_assoc}
+use Rattle.std.proofs.Common.{◌≡◌, ◌⊎◌, inl, inr, ℕ, Bool, true, false, List, [], ◌∷◌, ◌++◌, length, map, Option, Some, None, refl, sym, ap, subst, ◌∙◌, append_assoc, ◌||◌}
 use Rattle.std.specs.Prelude.{is_none, nat_le}
 use Rattle.std.specs.List.{flat_map}
 use Rattle.std.proofs.lemmas.List.{append-nil}
@@ -14,7 +14,7 @@ use Rattle.il_declarations.specs.declared.fault.DeclKind.{DeclKind}
 use Rattle.il_declarations.specs.declared.fault.DeclKind.TheVariants as kinds
 use Rattle.il_declarations.specs.declared.fault.FaultAt.{FaultAt}
 use Rattle.il_declarations.specs.Resolution.{capitals}
-use Rattle.il_declarations.specs.Declaring.{DeclaredName, BlockDeclaration, names_in, declarations_of, names_of, type_in, written_location, is_declared, arguments_behind}
+use Rattle.il_declarations.specs.Declaring.{DeclaredName, BlockDeclaration, names_in, declarations_of, names_of, type_in, written_location, is_declared, is_shadowed, arguments_behind}
 use Rattle.il_declarations.specs.TextFaults.{Somewhere, has_no_room, is_no_place, is_overlapping, is_bad_start, Asked, AsVariable, AsInstance, AsLocation, AsLiteral, asked_token, asked_kind, is_missing, asked_by, asked_behind, asked_of, asked_in, begins_at, HasFaultOf, HasFault}
 use Rattle.il_declarations.proofs.Agreeing.{each_by_itself, beside_append}
 use Rattle.il_declarations.proofs.DeclarationFaults.{before_of, before_push}
@@ -110,7 +110,7 @@ name_had dialect p f s = first (parted f (when doubled kinds.Duplicate left) (wh
     left = s.item.name.left
 
     doubled : Bool
-    doubled = is_declared s.before (capitals s.item.name.text)
+    doubled = is_declared s.before (capitals s.item.name.text) || is_shadowed dialect s.before s.item
 
     reserved : Bool
     reserved = is_reserved (capitals s.item.name.text)
@@ -384,8 +384,8 @@ many_listed dialect p left s =
       holds = subst (λ (n : ℕ). Among (fault kinds.TooMany n) (line_faults dialect (names_of p) s.before s.item)) (sym s.holds.0) (many_in dialect (names_of p) s.before s.item s.holds.1);
     })
 
-abbrev is_doubled : List DeclaredName → DeclaredName → Bool
-is_doubled b x = is_declared b (capitals x.name.text)
+abbrev is_doubled : Dialect → List DeclaredName → DeclaredName → Bool
+is_doubled dialect b x = is_declared b (capitals x.name.text) || is_shadowed dialect b x
 
 abbrev has_reserved : List DeclaredName → DeclaredName → Bool
 has_reserved b x = is_reserved (capitals x.name.text)
@@ -395,7 +395,7 @@ is_crowded dialect b x = has_no_room dialect (type_in dialect x.by) b
 
 kind_listed : (dialect : Dialect) → (p : ProgramText) (kind : DeclKind) (left : ℕ) → HasFaultOf dialect p kind left → Among (fault kind left) (faults_of dialect p)
 kind_listed dialect p kinds.Duplicate left h =
-    name_listed dialect p kinds.Duplicate left is_doubled (λ b x e. left_in (fault kinds.Duplicate x.name.left) (when (is_doubled b x) kinds.Duplicate x.name.left) _ (is_when (is_doubled b x) kinds.Duplicate x.name.left e)) h
+    name_listed dialect p kinds.Duplicate left (is_doubled dialect) (λ b x e. left_in (fault kinds.Duplicate x.name.left) (when (is_doubled dialect b x) kinds.Duplicate x.name.left) _ (is_when (is_doubled dialect b x) kinds.Duplicate x.name.left e)) h
 kind_listed dialect p kinds.UnknownType left h = type_listed dialect p left h
 kind_listed dialect p kinds.UnknownName left h = missing_listed dialect p kinds.UnknownName left h
 kind_listed dialect p kinds.BadLocation left (inl h) =
@@ -406,11 +406,11 @@ kind_listed dialect p kinds.Overlap left h =
 kind_listed dialect p kinds.BadInitial left h = start_listed dialect p left h
 kind_listed dialect p kinds.ReservedName left (inl h) =
     name_listed dialect p kinds.ReservedName left has_reserved
-    (λ b x e. right_in (fault kinds.ReservedName x.name.left) (when (is_doubled b x) kinds.Duplicate x.name.left) _ (left_in (fault kinds.ReservedName x.name.left) (when (has_reserved b x) kinds.ReservedName x.name.left) _ (is_when (has_reserved b x) kinds.ReservedName x.name.left e))) h
+    (λ b x e. right_in (fault kinds.ReservedName x.name.left) (when (is_doubled dialect b x) kinds.Duplicate x.name.left) _ (left_in (fault kinds.ReservedName x.name.left) (when (has_reserved b x) kinds.ReservedName x.name.left) _ (is_when (has_reserved b x) kinds.ReservedName x.name.left e))) h
 kind_listed dialect p kinds.ReservedName left (inr h) = label_listed dialect p left h
 kind_listed dialect p kinds.TooMany left (inl h) =
     name_listed dialect p kinds.TooMany left (is_crowded dialect)
-    (λ b x e. right_in (fault kinds.TooMany x.name.left) (when (is_doubled b x) kinds.Duplicate x.name.left) _ (right_in (fault kinds.TooMany x.name.left) (when (has_reserved b x) kinds.ReservedName x.name.left) _ (is_when (is_crowded dialect b x) kinds.TooMany x.name.left e))) h
+    (λ b x e. right_in (fault kinds.TooMany x.name.left) (when (is_doubled dialect b x) kinds.Duplicate x.name.left) _ (right_in (fault kinds.TooMany x.name.left) (when (has_reserved b x) kinds.ReservedName x.name.left) _ (is_when (is_crowded dialect b x) kinds.TooMany x.name.left e))) h
 kind_listed dialect p kinds.TooMany left (inr h) = many_listed dialect p left h
 
 -- each fault that the text has is one of the list

@@ -5,13 +5,14 @@ use Rattle.std.specs.List.{AllByRecursion, list_all, list_any, position}
 use Rattle.std.specs.Option.{option_map, option_and_then}
 use Rattle.std.specs.Cmp.Lexicographic.{nat_list_eq_equiv}
 use Rattle.std.proofs.lemmas.List.{length-append, append-nil}
-use Rattle.std.proofs.lemmas.Bool.{lt-ltb, le-ltb, leb-false}
+use Rattle.std.proofs.lemmas.Bool.{lt-ltb, le-ltb, le-leb, leb-false}
 use Rattle.il_model.specs.declared.dialect.Dialect.{Dialect}
 use Rattle.il_model.specs.declared.dialect.Dialect.TheVariants as dialects
 use Rattle.il_model.specs.declared.function.Function.{Function}
 use Rattle.il_model.specs.Functions.{function_named}
 use Rattle.il_model.specs.Dialects.{applied, or_function, or_extended, operator_in, literal_in, location_in}
 use Rattle.il_model.specs.Program.{program_of, Program, Declarations}
+use Rattle.il_model.specs.declared.codes.Version.TheVariants as versions
 use Rattle.il_model.specs.declared.value.Ty.{Ty}
 use Rattle.il_model.specs.declared.value.Ty.TheVariants as types
 use Rattle.il_model.specs.declared.value.Value.{Value}
@@ -34,7 +35,7 @@ use Rattle.il_model.specs.declared.codes.Usage.{Usage}
 use Rattle.il_model.specs.declared.codes.OperandForm as usage
 use Rattle.il_model.specs.declared.codes.OperandForm.TheVariants as usages
 use Rattle.il_model.specs.Values.{ty_of, number_of, typed_value, zero_of}
-use Rattle.il_model.specs.Words.{same_name, is_reserved, is_lawful_name, spells, look, mnemonic_of, mnemonic_table, extended_mnemonic_of, extended_mnemonic_table}
+use Rattle.il_model.specs.Words.{same_name, stands_under, split_last, is_reserved, is_lawful_name, spells, look, mnemonic_of, mnemonic_table, extended_mnemonic_of, extended_mnemonic_table}
 use Rattle.il_model.specs.Resolved.{instance_in}
 use Rattle.il_model.specs.CodedOperands.{loc_code, IsCell}
 use Rattle.il_model.specs.Image.{type_code}
@@ -43,7 +44,7 @@ use Rattle.il_model.specs.Locations.{area_of, seen_as}
 use Rattle.il_model.specs.Typing.{loc_type, is_writable_area}
 use Rattle.il_model.specs.Codes as codes_of
 use Rattle.il_model.specs.Operators.{is_zero}
-use Rattle.il_model.specs.Codes.{if_passes, is_new_name, is_taken, is_overlapped, is_type, length_of, may_start_with, initial_of, usage_of, has_form, allowed_by, formed_by, is_empty}
+use Rattle.il_model.specs.Codes.{if_passes, is_new_name, is_taken, is_overlapped, is_type, is_number, has_under, length_in, may_start_with, initial_of, usage_of, has_form, allowed_by, formed_by, is_empty}
 use Rattle.il_model.specs.Fits.{IsVariable, IsInstance, AreItems}
 use Rattle.il_model.specs.Lawful.{IsLabel}
 use Rattle.il_model.specs.Declarable.{IsOperand, as_value, IsArgument, IsInstruction, IsDeclared}
@@ -58,7 +59,7 @@ use Rattle.il_reader.specs.Tokens.{Token}
 use Rattle.il_reader.specs.Front.{is_sign}
 use Rattle.il_reader.specs.Grammar.{BlockText, is_retained, OperandText, Constant, Direct, Named, Field, ArgumentText, arguments_of, BehindText, Nothing, Given, Target, Opened, Called, OperationText, LineText, Labelled, Plain, NamesText, Located, More, DeclarationText, ProgramText, form_of, closing, operator_of, operator_from}
 use Rattle.il_reader.specs.Spelling.{accepts, accepting, operator_before}
-use Rattle.il_reader.specs.Words.{IsWordText, IsWordName, AreWordNames, IsWordDeclaration, IsOperation, IsOptionalOperation, IsOperator, AreWords}
+use Rattle.il_reader.specs.Words.{IsName, AreNames, IsNamedDeclaration, IsOperation, IsOptionalOperation, IsOperator, AreWords}
 use Rattle.il_declarations.specs.declared.fault.DeclKind.TheVariants as kinds
 use Rattle.il_declarations.specs.declared.fault.FaultAt.{FaultAt}
 use Rattle.il_declarations.specs.declared.variables.Plan.{Plan}
@@ -66,7 +67,7 @@ use Rattle.il_declarations.specs.declared.variables.DeclaredType.{DeclaredType}
 use Rattle.il_declarations.specs.declared.variables.DeclaredType.TheVariants.{Elementary, Block}
 use Rattle.il_declarations.specs.Resolution.{capitals, declared_type, suits, place_as, variable, same_type, fitting, is_input, written_value, opens, with_opening}
 use Rattle.il_declarations.specs.Declaring.{BlockDeclaration, in_block, declarations_in}
-use Rattle.il_declarations.specs.Walk.{◌>>=◌, each, refused, nothing, has_name, has_instance, is_full, new_name, free_loc, free_location, found_type, known_type, fitted, elementary_value, first_value, planned_value, with_declared, declare_name, declare_located, declare_listed, declare_by, declare, declare_block, direct, constant, argument_of, pushed_argument, behind_arguments, behind_of, instruction_of, room, label_of, instruct_labelled, instruct_plain, instruct}
+use Rattle.il_declarations.specs.Walk.{◌>>=◌, each, refused, nothing, has_name, has_instance, is_full, is_shadowed, new_name, free_loc, free_location, found_type, known_type, fitted, elementary_value, first_value, planned_value, with_declared, declare_name, declare_located, declare_listed, declare_by, declare, declare_block, direct, constant, field_named, argument_of, pushed_argument, behind_arguments, behind_of, instruction_of, room, label_of, instruct_labelled, instruct_plain, instruct}
 use Rattle.il_declarations.specs.Resolution as resolution
 use Rattle.il_declarations.specs.Walk as walk
 use Rattle.il_declarations.proofs.Capitals.{capitals_lawful, capitals_length}
@@ -110,20 +111,22 @@ record IsNew (type : Option DeclaredType) (known : Declarations) (t : Token) (na
   is : capitals t.text ≡ name
   no_variable : has_name known (capitals t.text) ≡ false
   no_instance : has_instance known (capitals t.text) ≡ false
+  apart : is_shadowed type known (capitals t.text) ≡ false
   free : is_reserved (capitals t.text) ≡ false
   room : is_full type known ≡ false
 
 new_is : (type : Option DeclaredType) (known : Declarations) (t : Token) (name : List ℕ) → new_name type known t ≡ Ok name → IsNew type known t name
 unfolding new_name
-new_is type known t name e = chosen (has_name known (capitals t.text)) (has_instance known (capitals t.text)) (is_reserved (capitals t.text)) (is_full type known) refl refl refl refl e
+new_is type known t name e = chosen (has_name known (capitals t.text)) (has_instance known (capitals t.text)) (is_shadowed type known (capitals t.text)) (is_reserved (capitals t.text)) (is_full type known) refl refl refl refl refl e
   where
-    chosen : (a i b c : Bool) → has_name known (capitals t.text) ≡ a → has_instance known (capitals t.text) ≡ i → is_reserved (capitals t.text) ≡ b → is_full type known ≡ c
-        → cond (a || i) (refused kinds.Duplicate t) (cond b (refused kinds.ReservedName t) (cond c (refused kinds.TooMany t) (Ok (capitals t.text)))) ≡ Ok name → IsNew type known t name
-    chosen true i b c f j g h e = absurd cc
-    chosen false true b c f j g h e = absurd cc
-    chosen false false true c f j g h e = absurd cc
-    chosen false false false true f j g h e = absurd cc
-    chosen false false false false f j g h e = record { is = ok_is (capitals t.text) name e; no_variable = f; no_instance = j; free = g; room = h }
+    chosen : (a i s b c : Bool) → has_name known (capitals t.text) ≡ a → has_instance known (capitals t.text) ≡ i → is_shadowed type known (capitals t.text) ≡ s → is_reserved (capitals t.text) ≡ b → is_full type known ≡ c
+        → cond ((a || i) || s) (refused kinds.Duplicate t) (cond b (refused kinds.ReservedName t) (cond c (refused kinds.TooMany t) (Ok (capitals t.text)))) ≡ Ok name → IsNew type known t name
+    chosen true i s b c f j k g h e = absurd cc
+    chosen false true s b c f j k g h e = absurd cc
+    chosen false false true b c f j k g h e = absurd cc
+    chosen false false false true c f j k g h e = absurd cc
+    chosen false false false false true f j k g h e = absurd cc
+    chosen false false false false false f j k g h e = record { is = ok_is (capitals t.text) name e; no_variable = f; no_instance = j; apart = k; free = g; room = h }
 
 more_variables : (type : Ty) (known : Declarations) → is_full (Some (Elementary type)) known ≡ false → length known.variables < 512
 more_variables type known e = leb-false 512 (length known.variables) e
@@ -138,6 +141,8 @@ type_again types.Dint = refl
 type_again types.Time = refl
 type_again types.Lint = refl
 type_again types.Real = refl
+type_again types.Word = refl
+type_again types.Dword = refl
 
 -- a value that is made again of its own number at that place
 abbrev IsStart : Ty → Option Loc → Value → Type 0
@@ -153,35 +158,35 @@ record IsFreePlace (type : DeclaredType) (known : Declarations) (loc : Loc) : Ty
   suits : IsOf type loc
   free : is_overlapped known.variables loc ≡ false
 
-long_enough : (t : Token) → IsWordText t.text → length_of (length (capitals t.text)) ≡ Some (length (capitals t.text))
-long_enough t word = let l = capitals_length t.text word in rw (lt-ltb 0 (length (capitals t.text)) l.0, lt-ltb (length (capitals t.text)) 33 l.1) refl
+long_enough : (dialect : Dialect) (t : Token) → IsName dialect t → length_in versions.Three (length (capitals t.text)) ≡ Some (length (capitals t.text))
+long_enough dialect t word = let l = capitals_length dialect t.text word in rw (lt-ltb 0 (length (capitals t.text)) l.0, le-leb (length (capitals t.text)) 96 l.1) refl
 
 -- a lawful name at a place that none has, with a first value
-variable_fits : (r : Bool) (known : Declarations) (t : Token) (name : List ℕ) (type : Ty) (o : Option Loc) (v : Value) → IsWordText t.text → IsNew (Some (Elementary type)) known t name
+variable_fits : (dialect : Dialect) (r : Bool) (known : Declarations) (t : Token) (name : List ℕ) (type : Ty) (o : Option Loc) (v : Value) → IsName dialect t → IsNew (Some (Elementary type)) known t name
     → ((loc : Loc) → o ≡ Some loc → IsFreePlace (Elementary type) known loc) → IsStart type o v → IsVariable known.variables (variable r name type o v)
-variable_fits r known t name type o v word new place start =
+variable_fits dialect r known t name type o v word new place start =
     subst (λ (n : List ℕ). IsVariable known.variables (variable r n type o v)) new.is (by_place o place start)
   where
     lawful : is_lawful_name (capitals t.text) ≡ true
-    lawful = capitals_lawful t.text word new.free
+    lawful = capitals_lawful dialect t.text word new.free
 
     fresh : is_new_name known.variables (capitals t.text) ≡ true
     fresh = rw (lawful, new.no_variable) refl
 
     by_place : (o : Option Loc) → ((loc : Loc) → o ≡ Some loc → IsFreePlace (Elementary type) known loc) → IsStart type o v → IsVariable known.variables (variable r (capitals t.text) type o v)
-    by_place None place start = record { length = long_enough t word; name = fresh; type = type_again type; location = refl; location_small = omega arith; initial = start }
+    by_place None place start = record { length = long_enough dialect t word; name = fresh; type = type_again type; location = refl; location_small = omega arith; initial = start }
     by_place (Some loc) place start =
         let p = place loc refl in
-        record { length = long_enough t word; name = fresh; type = type_again type; location = located_again known.variables type loc p.place p.suits p.free; location_small = omega (arith, loc_small loc p.place); initial = start }
+        record { length = long_enough dialect t word; name = fresh; type = type_again type; location = located_again known.variables type loc p.place p.suits p.free; location_small = omega (arith, loc_small loc p.place); initial = start }
 
 abbrev instance : Bool → List ℕ → BlockKind → Instance
 instance r name kind = record { name = name; kind = kind; retained = r }
 
--- a lawful name that no variable and no instance has
-instance_fits : (r : Bool) (type : Option DeclaredType) (known : Declarations) (t : Token) (name : List ℕ) (kind : BlockKind) → IsWordText t.text → IsNew type known t name → IsInstance known.variables known.instances (instance r name kind)
-instance_fits r type known t name kind word new =
-    let lawful = capitals_lawful t.text word new.free in
-    subst (λ (n : List ℕ). IsInstance known.variables known.instances (instance r n kind)) new.is (record { length = long_enough t word; name = rw (lawful, new.no_variable, new.no_instance) refl })
+-- a lawful name that no variable and no instance has, and under which no variable stands
+instance_fits : (dialect : Dialect) (r : Bool) (known : Declarations) (t : Token) (name : List ℕ) (kind : BlockKind) → IsName dialect t → IsNew (Some (Block kind)) known t name → IsInstance known.variables known.instances (instance r name kind)
+instance_fits dialect r known t name kind word new =
+    let lawful = capitals_lawful dialect t.text word new.free in
+    subst (λ (n : List ℕ). IsInstance known.variables known.instances (instance r n kind)) new.is (record { length = long_enough dialect t word; name = rw (lawful, new.no_variable, new.no_instance, new.apart) refl })
 
 -- what is found nowhere isn't the first, nor behind it
 not_found : {X : Type 0} (p : X → Bool) (x : X) (xs : List X) → is_some (position p (x ∷ xs)) ≡ false → (p x ≡ false) × (is_some (position p xs) ≡ false)
@@ -195,17 +200,32 @@ not_found p x xs e = by_test (p x) refl
     by_test true f = let found : true ≡ false = ap is_some (sym (position_first p x xs f)) ∙ e in absurd cc
     by_test false f = (f, none_later (position p xs) (ap is_some (sym (position_later p x xs f)) ∙ e))
 
--- an instance stays new beside one variable more, which has another name
-instance_stays : (vs : List Variable) (v : Variable) (seen : List Instance) (x : Instance) → same_name x.name v.name ≡ false → IsInstance vs seen x → IsInstance (vs ++ v ∷ []) seen x
-instance_stays vs v seen x differs is =
-    let other : same_name v.name x.name ≡ false = nat_list_eq_equiv.symm v.name x.name ∙ differs in
-    record { length = is.length; name = ap (λ (o : Option ℕ). (is_lawful_name x.name && not (is_some o)) && not (is_some (instance_in seen x.name))) (position_past (λ (w : Variable). same_name w.name x.name) vs v other) ∙ is.name }
+-- one variable more that doesn't stand under the name
+under_past : (vs : List Variable) (v : Variable) (name : List ℕ) → stands_under name v.name ≡ false → has_under (vs ++ v ∷ []) name ≡ has_under vs name
+under_past [] v name e = rw e refl
+under_past (w ∷ vs) v name e = ap (λ (b : Bool). stands_under name w.name || b) (under_past vs v name e)
 
-instances_stay : (vs : List Variable) (v : Variable) (seen xs : List Instance) → is_some (instance_in xs v.name) ≡ false → AreItems (IsInstance vs) seen xs → AreItems (IsInstance (vs ++ v ∷ [])) seen xs
-instances_stay vs v seen [] none all = tt
-instances_stay vs v seen (x ∷ xs) none all =
-    let apart = not_found (λ (w : Instance). same_name w.name v.name) x xs none in
-    (instance_stays vs v seen x apart.0 all.0, instances_stay vs v (seen ++ x ∷ []) xs apart.1 all.1)
+-- an instance stays new beside one variable more, which has another name and doesn't stand under it
+instance_stays : (vs : List Variable) (v : Variable) (seen : List Instance) (x : Instance) → same_name x.name v.name ≡ false → stands_under x.name v.name ≡ false → IsInstance vs seen x → IsInstance (vs ++ v ∷ []) seen x
+instance_stays vs v seen x differs apart is =
+    let other : same_name v.name x.name ≡ false = nat_list_eq_equiv.symm v.name x.name ∙ differs in
+    record {
+      length = is.length;
+      name = ap (λ (b : Bool). ((is_lawful_name x.name && not (is_some (is_number (vs ++ v ∷ []) x.name))) && not (is_some (instance_in seen x.name))) && not b) (under_past vs v x.name apart)
+          ∙ ap (λ (o : Option ℕ). ((is_lawful_name x.name && not (is_some o)) && not (is_some (instance_in seen x.name))) && not (has_under vs x.name)) (position_past (λ (w : Variable). same_name w.name x.name) vs v other)
+          ∙ is.name;
+    }
+
+or_false : (a b : Bool) → (a || b) ≡ false → (a ≡ false) × (b ≡ false)
+or_false true b e = absurd cc
+or_false false b e = (refl, e)
+
+instances_stay : (vs : List Variable) (v : Variable) (seen xs : List Instance) → is_some (instance_in xs v.name) ≡ false → list_any (λ (w : Instance). stands_under w.name v.name) xs ≡ false → AreItems (IsInstance vs) seen xs → AreItems (IsInstance (vs ++ v ∷ [])) seen xs
+instances_stay vs v seen [] none apart all = tt
+instances_stay vs v seen (x ∷ xs) none apart all =
+    let other = not_found (λ (w : Instance). same_name w.name v.name) x xs none in
+    let under = or_false (stands_under x.name v.name) (list_any (λ (w : Instance). stands_under w.name v.name) xs) apart in
+    (instance_stays vs v seen x other.0 under.0 all.0, instances_stay vs v (seen ++ x ∷ []) xs other.1 under.1 all.1)
 
 abbrev nowhere : Option Loc
 nowhere = None
@@ -240,6 +260,8 @@ zero_made types.Dint = refl
 zero_made types.Time = refl
 zero_made types.Lint = refl
 zero_made types.Real = real_zero (zero_of types.Real) refl
+zero_made types.Word = refl
+zero_made types.Dword = refl
 
 zero_may : (type : Ty) (loc : Option Loc) → may_start_with loc (zero_of type) ≡ true
 zero_may type None = refl
@@ -249,6 +271,8 @@ zero_may types.Dint (Some loc) = or_true (is_writable_area (area_of loc))
 zero_may types.Time (Some loc) = or_true (is_writable_area (area_of loc))
 zero_may types.Lint (Some loc) = or_true (is_writable_area (area_of loc))
 zero_may types.Real (Some loc) = or_true (is_writable_area (area_of loc))
+zero_may types.Word (Some loc) = or_true (is_writable_area (area_of loc))
+zero_may types.Dword (Some loc) = or_true (is_writable_area (area_of loc))
 
 abbrev one_value : Value → Option Value
 one_value v = Some v
@@ -314,32 +338,33 @@ planned_start dialect (Block kind) o v e = tt
 abbrev plan : Bool → Option DeclaredType → Value → Plan
 plan r type v = record { ty = type; initial = v; retained = r }
 
-declared_fine : (r : Bool) (type : DeclaredType) (v : Value) (known : Declarations) (t : Token) (name : List ℕ) (loc : Option Loc) → Fine known → IsWordText t.text → IsNew (Some type) known t name
+declared_fine : (dialect : Dialect) (r : Bool) (type : DeclaredType) (v : Value) (known : Declarations) (t : Token) (name : List ℕ) (loc : Option Loc) → Fine known → IsName dialect t → IsNew (Some type) known t name
     → ((l : Loc) → loc ≡ Some l → IsFreePlace type known l) → Starts type loc v → Fine (with_declared (plan r (Some type) v) known name loc (Some type))
-declared_fine r (Elementary type) v known t name loc fine word new place start =
+declared_fine dialect r (Elementary type) v known t name loc fine word new place start =
     let more = more_variables type known new.room in
     let none : is_some (instance_in known.instances name) ≡ false = subst (λ (n : List ℕ). is_some (instance_in known.instances n) ≡ false) new.is new.no_instance in
+    let apart : list_any (λ (w : Instance). stands_under w.name name) known.instances ≡ false = subst (λ (n : List ℕ). list_any (λ (w : Instance). stands_under w.name n) known.instances ≡ false) new.is new.apart in
     record {
-      variables = items_push IsVariable [] known.variables (variable r name type loc v) fine.variables (variable_fits r known t name type loc v word new place start);
+      variables = items_push IsVariable [] known.variables (variable r name type loc v) fine.variables (variable_fits dialect r known t name type loc v word new place start);
       variables_few = omega (arith, more, length-append known.variables (variable r name type loc v ∷ []));
-      instances = instances_stay known.variables (variable r name type loc v) [] known.instances none fine.instances;
+      instances = instances_stay known.variables (variable r name type loc v) [] known.instances none apart fine.instances;
       instances_few = fine.instances_few;
     }
-declared_fine r (Block kind) v known t name loc fine word new place start =
+declared_fine dialect r (Block kind) v known t name loc fine word new place start =
     let more = more_instances kind known new.room in
     record {
       variables = fine.variables;
       variables_few = fine.variables_few;
-      instances = items_push (IsInstance known.variables) [] known.instances (instance r name kind) fine.instances (instance_fits r (Some (Block kind)) known t name kind word new);
+      instances = items_push (IsInstance known.variables) [] known.instances (instance r name kind) fine.instances (instance_fits dialect r known t name kind word new);
       instances_few = omega (arith, more, length-append known.instances (instance r name kind ∷ []));
     }
 
-name_keeps : (r : Bool) (type : DeclaredType) (v : Value) (known : Declarations) (t : Token) (z : Declarations) → Starts type None v → Fine known → IsWordText t.text → declare_name (plan r (Some type) v) known t ≡ Ok z → Fine z
+name_keeps : (dialect : Dialect) (r : Bool) (type : DeclaredType) (v : Value) (known : Declarations) (t : Token) (z : Declarations) → Starts type None v → Fine known → IsName dialect t → declare_name (plan r (Some type) v) known t ≡ Ok z → Fine z
 unfolding declare_name
-name_keeps r type v known t z start fine word e =
+name_keeps dialect r type v known t z start fine word e =
     let m = bind_ok (new_name (Some type) known t) (λ name. Ok (with_declared (plan r (Some type) v) known name None (Some type))) z e in
     subst Fine (ok_is (with_declared (plan r (Some type) v) known m.0 None (Some type)) z m.2)
-    (declared_fine r type v known t m.0 None fine word (new_is (Some type) known t m.0 m.1) (λ loc none. absurd (no_place loc none)) start)
+    (declared_fine dialect r type v known t m.0 None fine word (new_is (Some type) known t m.0 m.1) (λ loc none. absurd (no_place loc none)) start)
 
 type_is : (dialect : Dialect) → (t : Token) (type : DeclaredType) → known_type dialect t ≡ Ok type → declared_type dialect t.text ≡ Some type
 type_is dialect t type e = found (declared_type dialect t.text) e
@@ -375,15 +400,15 @@ becomes z known e fine = subst Fine (ok_is known z e) fine
 abbrev located : Bool → Declarations → List ℕ → Loc → DeclaredType → Value → Declarations
 located r known name loc type v = with_declared (plan r (Some type) v) known name (Some (place_as type loc)) (Some type)
 
-located_fine : (dialect : Dialect) → (known : Declarations) (d : BlockDeclaration) (at : Token) (name : List ℕ) (loc : Loc) (type : DeclaredType) (v : Value) → Fine known → IsWordText d.text.name.text → new_name (declared_type dialect d.text.ty.text) known d.text.name ≡ Ok name
+located_fine : (dialect : Dialect) → (known : Declarations) (d : BlockDeclaration) (at : Token) (name : List ℕ) (loc : Loc) (type : DeclaredType) (v : Value) → Fine known → IsName dialect d.text.name → new_name (declared_type dialect d.text.ty.text) known d.text.name ≡ Ok name
     → free_location dialect (declared_type dialect d.text.ty.text) known at ≡ Ok loc → known_type dialect d.text.ty ≡ Ok type → first_value dialect type (Some loc) d.text.initial ≡ Ok v → Fine (located d.retained known name loc type v)
 located_fine dialect known d at name loc type v fine word named free typed first =
     let known-type = type_is dialect d.text.ty type typed in
     let new = new_is (Some type) known d.text.name name (subst (λ (o : Option DeclaredType). new_name o known d.text.name ≡ Ok name) known-type named) in
     let place = place_is dialect type known at loc (subst (λ (o : Option DeclaredType). free_location dialect o known at ≡ Ok loc) known-type free) in
-    declared_fine d.retained type v known d.text.name name (Some (place_as type loc)) fine word new (λ l is. subst (IsFreePlace type known) (same_loc (place_as type loc) l is) place) (first_start_seen dialect type loc d.text.initial v first)
+    declared_fine dialect d.retained type v known d.text.name name (Some (place_as type loc)) fine word new (λ l is. subst (IsFreePlace type known) (same_loc (place_as type loc) l is) place) (first_start_seen dialect type loc d.text.initial v first)
 
-located_keeps : (dialect : Dialect) → (known : Declarations) (d : BlockDeclaration) (at : Token) (z : Declarations) → Fine known → IsWordText d.text.name.text → declare_located dialect known d at ≡ Ok z → Fine z
+located_keeps : (dialect : Dialect) → (known : Declarations) (d : BlockDeclaration) (at : Token) (z : Declarations) → Fine known → IsName dialect d.text.name → declare_located dialect known d at ≡ Ok z → Fine z
 unfolding declare_located
 located_keeps dialect known d at z fine word e =
     let a = bind_ok (new_name (declared_type dialect d.text.ty.text) known d.text.name) (λ name. free_location dialect (declared_type dialect d.text.ty.text) known at >>= λ loc. known_type dialect d.text.ty >>= λ type. first_value dialect type (Some loc) d.text.initial >>= λ v. Ok (located d.retained known name loc type v)) z e in
@@ -392,7 +417,7 @@ located_keeps dialect known d at z fine word e =
     let f = bind_ok (first_value dialect c.0 (Some b.0) d.text.initial) (λ v. Ok (located d.retained known a.0 b.0 c.0 v)) z c.2 in
     becomes z (located d.retained known a.0 b.0 c.0 f.0) f.2 (located_fine dialect known d at a.0 b.0 c.0 f.0 fine word a.1 b.1 c.1 f.1)
 
-listed_keeps : (dialect : Dialect) → (known : Declarations) (d : BlockDeclaration) (more : List Token) (z : Declarations) → Fine known → IsWordText d.text.name.text → AllByRecursion IsWordName more → declare_listed dialect known d more ≡ Ok z → Fine z
+listed_keeps : (dialect : Dialect) → (known : Declarations) (d : BlockDeclaration) (more : List Token) (z : Declarations) → Fine known → IsName dialect d.text.name → AllByRecursion (IsName dialect) more → declare_listed dialect known d more ≡ Ok z → Fine z
 unfolding declare_listed
 listed_keeps dialect known d more z fine word words e =
     let typed_value : Option DeclaredType → Plan = λ o. plan d.retained o (planned_value dialect o d.text.initial) in
@@ -403,26 +428,26 @@ listed_keeps dialect known d more z fine word words e =
     let type = type_is dialect d.text.ty c.0 c.1 in
     let v = planned_value dialect (Some c.0) d.text.initial in
     let start : Starts c.0 None v = planned_start dialect c.0 d.text.initial f.0 f.1 in
-    let first : Fine a.0 = name_keeps d.retained c.0 v known d.text.name a.0 start fine word (subst (λ (o : Option DeclaredType). declare_name (typed_value o) known d.text.name ≡ Ok a.0) type a.1) in
-    let rest : Fine b.0 = each_keeps Fine IsWordName (declare_name (typed_value (Some c.0))) (λ y t w p q h. name_keeps d.retained c.0 v y t w start p q h) a.0 more b.0 first words (subst (λ (o : Option DeclaredType). each (declare_name (typed_value o)) a.0 more ≡ Ok b.0) type b.1) in
+    let first : Fine a.0 = name_keeps dialect d.retained c.0 v known d.text.name a.0 start fine word (subst (λ (o : Option DeclaredType). declare_name (typed_value o) known d.text.name ≡ Ok a.0) type a.1) in
+    let rest : Fine b.0 = each_keeps Fine (IsName dialect) (declare_name (typed_value (Some c.0))) (λ y t w p q h. name_keeps dialect d.retained c.0 v y t w start p q h) a.0 more b.0 first words (subst (λ (o : Option DeclaredType). each (declare_name (typed_value o)) a.0 more ≡ Ok b.0) type b.1) in
     subst Fine (ok_is b.0 z f.2) rest
 
-by_names : (dialect : Dialect) → (known : Declarations) (d : BlockDeclaration) (x : NamesText) (z : Declarations) → Fine known → IsWordText d.text.name.text → AreWordNames x → declare_by dialect known d x ≡ Ok z → Fine z
+by_names : (dialect : Dialect) → (known : Declarations) (d : BlockDeclaration) (x : NamesText) (z : Declarations) → Fine known → IsName dialect d.text.name → AreNames dialect x → declare_by dialect known d x ≡ Ok z → Fine z
 by_names dialect known d (Located at) z fine word words e = located_keeps dialect known d at z fine word e
 by_names dialect known d (More more) z fine word words e = listed_keeps dialect known d more z fine word words e
 
-declare_keeps : (dialect : Dialect) → (known : Declarations) (d : BlockDeclaration) (z : Declarations) → Fine known → IsWordDeclaration d.text → declare dialect known d ≡ Ok z → Fine z
+declare_keeps : (dialect : Dialect) → (known : Declarations) (d : BlockDeclaration) (z : Declarations) → Fine known → IsNamedDeclaration dialect d.text → declare dialect known d ≡ Ok z → Fine z
 declare_keeps dialect known d z fine words e = by_names dialect known d d.text.names z fine words.name words.names e
 
-words_in : (r : Bool) (ds : List DeclarationText) → AllByRecursion IsWordDeclaration ds → AllByRecursion (λ (d : BlockDeclaration). IsWordDeclaration d.text) (map (in_block r) ds)
-words_in r [] words = tt
-words_in r (d ∷ ds) words = (words.0, words_in r ds words.1)
+words_in : (dialect : Dialect) (r : Bool) (ds : List DeclarationText) → AllByRecursion (IsNamedDeclaration dialect) ds → AllByRecursion (λ (d : BlockDeclaration). IsNamedDeclaration dialect d.text) (map (in_block r) ds)
+words_in dialect r [] words = tt
+words_in dialect r (d ∷ ds) words = (words.0, words_in dialect r ds words.1)
 
-block_keeps : (dialect : Dialect) → (known : Declarations) (b : BlockText) (z : Declarations) → Fine known → AllByRecursion IsWordDeclaration b.declarations → declare_block dialect known b ≡ Ok z → Fine z
-block_keeps dialect known b z fine words e = each_keeps Fine (λ (d : BlockDeclaration). IsWordDeclaration d.text) (declare dialect) (declare_keeps dialect) known (declarations_in b) z fine (words_in (is_retained b) b.declarations words) e
+block_keeps : (dialect : Dialect) → (known : Declarations) (b : BlockText) (z : Declarations) → Fine known → AllByRecursion (IsNamedDeclaration dialect) b.declarations → declare_block dialect known b ≡ Ok z → Fine z
+block_keeps dialect known b z fine words e = each_keeps Fine (λ (d : BlockDeclaration). IsNamedDeclaration dialect d.text) (declare dialect) (declare_keeps dialect) known (declarations_in b) z fine (words_in dialect (is_retained b) b.declarations words) e
 
-pub blocks_fine : (dialect : Dialect) → (bs : List BlockText) (z : Declarations) → AllByRecursion (λ (b : BlockText). AllByRecursion IsWordDeclaration b.declarations) bs → each (declare_block dialect) nothing bs ≡ Ok z → Fine z
-blocks_fine dialect bs z words e = each_keeps Fine (λ (b : BlockText). AllByRecursion IsWordDeclaration b.declarations) (declare_block dialect) (block_keeps dialect) nothing bs z (record { variables = tt; variables_few = omega arith; instances = tt; instances_few = omega arith }) words e
+pub blocks_fine : (dialect : Dialect) → (bs : List BlockText) (z : Declarations) → AllByRecursion (λ (b : BlockText). AllByRecursion (IsNamedDeclaration dialect) b.declarations) bs → each (declare_block dialect) nothing bs ≡ Ok z → Fine z
+blocks_fine dialect bs z words e = each_keeps Fine (λ (b : BlockText). AllByRecursion (IsNamedDeclaration dialect) b.declarations) (declare_block dialect) (block_keeps dialect) nothing bs z (record { variables = tt; variables_few = omega arith; instances = tt; instances_few = omega arith }) words e
 
 -- ---- operators
 
@@ -611,9 +636,17 @@ given_is dialect ds (Direct t) x e = by_location (location_in dialect t.text) re
         subst (IsGiven ds) (ok_is (operands.Direct loc) x h) (record { value = refl; lawful = p })
 given_is dialect ds (Named t) x e = chosen (has_name ds (capitals t.text)) refl e
   where
-    chosen : (b : Bool) → has_name ds (capitals t.text) ≡ b → cond b (Ok (operands.Variable (capitals t.text))) (refused kinds.UnknownName t) ≡ Ok x → IsGiven ds x
+    by_field : (y field : List ℕ) (b : Bool) → has_instance ds y ≡ b → cond b (Ok (operands.Field y field)) (refused kinds.UnknownName t) ≡ Ok x → IsGiven ds x
+    by_field y field true f h = subst (IsGiven ds) (ok_is (operands.Field y field) x h) (record { value = refl; lawful = f })
+    by_field y field false f h = absurd cc
+
+    by_split : (o : Option (List ℕ × List ℕ)) → field_named ds t o ≡ Ok x → IsGiven ds x
+    by_split None h = absurd cc
+    by_split (Some (y, field)) h = by_field y field (has_instance ds y) refl h
+
+    chosen : (b : Bool) → has_name ds (capitals t.text) ≡ b → cond b (Ok (operands.Variable (capitals t.text))) (field_named ds t (split_last (capitals t.text))) ≡ Ok x → IsGiven ds x
     chosen true f h = subst (IsGiven ds) (ok_is (operands.Variable (capitals t.text)) x h) (record { value = refl; lawful = f })
-    chosen false f h = absurd cc
+    chosen false f h = by_split (split_last (capitals t.text)) h
 given_is dialect ds (Field t f) x e = chosen (has_instance ds (capitals t.text)) refl e
   where
     chosen : (b : Bool) → has_instance ds (capitals t.text) ≡ b → cond b (Ok (operands.Field (capitals t.text) (capitals f.text))) (refused kinds.UnknownName t) ≡ Ok x → IsGiven ds x
@@ -694,13 +727,13 @@ arguments_are dialect ds b xs e = subst (λ (found : List Argument). AllByRecurs
 
 -- ---- lines
 
-label_is : (t : Token) (name : List ℕ) → IsWordText t.text → label_of t ≡ Ok name → IsLabel (Some name)
-label_is t name word e = chosen (is_reserved (capitals t.text)) refl e
+label_is : (dialect : Dialect) (t : Token) (name : List ℕ) → IsName dialect t → label_of t ≡ Ok name → IsLabel (Some name)
+label_is dialect t name word e = chosen (is_reserved (capitals t.text)) refl e
   where
     chosen : (b : Bool) → is_reserved (capitals t.text) ≡ b → cond b (refused kinds.ReservedName t) (Ok (capitals t.text)) ≡ Ok name → IsLabel (Some name)
     chosen true f h = absurd cc
     chosen false f h =
-        subst (λ (n : List ℕ). IsLabel (Some n)) (ok_is (capitals t.text) name h) (long_enough t word, capitals_lawful t.text word f)
+        subst (λ (n : List ℕ). IsLabel (Some n)) (ok_is (capitals t.text) name h) (long_enough dialect t word, capitals_lawful dialect t.text word f)
 
 abbrev instruction : Option (List ℕ) → Op → Modifier → Operand → List Argument → Instr
 instruction label op m x arguments = record { label = label; op = op; modifier = m; operand = x; arguments = arguments }
@@ -742,13 +775,13 @@ code_push ds code line left u fine free is =
     has_room true f h = absurd cc
     has_room false f h = leb-false 4096 (length code) f
 
-labelled_keeps : (dialect : Dialect) → (ds : Declarations) (code : List Instr) (t : Token) (o : Option OperationText) (z : List Instr) → FineCode ds code → IsWordText t.text → IsOptionalOperation dialect o → instruct_labelled dialect ds code t o ≡ Ok z → FineCode ds z
+labelled_keeps : (dialect : Dialect) → (ds : Declarations) (code : List Instr) (t : Token) (o : Option OperationText) (z : List Instr) → FineCode ds code → IsName dialect t → IsOptionalOperation dialect o → instruct_labelled dialect ds code t o ≡ Ok z → FineCode ds z
 unfolding instruct_labelled
 labelled_keeps dialect ds code t o z fine word is e =
     let a = bind_ok (label_of t) (λ label. room code t.left >>= λ here. instruction_of dialect ds (Some label) o >>= λ line. Ok (code ++ line ∷ [])) z e in
     let b = bind_ok (room code t.left) (λ here. instruction_of dialect ds (Some a.0) o >>= λ line. Ok (code ++ line ∷ [])) z a.2 in
     let c = bind_ok (instruction_of dialect ds (Some a.0) o) (λ line. Ok (code ++ line ∷ [])) z b.2 in
-    subst (FineCode ds) (ok_is (code ++ c.0 ∷ []) z c.2) (code_push ds code c.0 t.left b.0 fine b.1 (optional_is dialect ds a.0 o c.0 (label_is t a.0 word a.1) is c.1))
+    subst (FineCode ds) (ok_is (code ++ c.0 ∷ []) z c.2) (code_push ds code c.0 t.left b.0 fine b.1 (optional_is dialect ds a.0 o c.0 (label_is dialect t a.0 word a.1) is c.1))
 
 plain_keeps : (dialect : Dialect) → (ds : Declarations) (code : List Instr) (o : OperationText) (z : List Instr) → FineCode ds code → IsOperation dialect o → instruct_plain dialect ds code o ≡ Ok z → FineCode ds z
 unfolding instruct_plain

@@ -1,5 +1,5 @@
 -- The walk over instruction lines ends at the first of their faults, and else has their instructions; and so the walk over a text.
-use Rattle.std.proofs.Common.{◌≡◌, ℕ, suc, Bool, true, false, cond, leb, List, [], ◌∷◌, ◌++◌, length, Option, Some, None, Ok, Err, refl, sym, ap, subst, ◌∙◌, not}
+use Rattle.std.proofs.Common.{◌≡◌, ℕ, suc, Bool, true, false, cond, leb, List, [], ◌∷◌, ◌++◌, length, Option, Some, None, Ok, Err, refl, sym, ap, subst, ◌∙◌, not, ◌||◌}
 use Rattle.std.specs.Prelude.{is_none, nat_le}
 use Rattle.std.specs.List.{flat_map, AllZip}
 use Rattle.std.specs.Option.{option_map}
@@ -14,15 +14,16 @@ use Rattle.il_model.specs.declared.program.Operand.TheVariants as operands
 use Rattle.il_model.specs.declared.program.Argument.{Argument}
 use Rattle.il_model.specs.declared.program.Instr.{Instr}
 use Rattle.il_model.specs.Program.{Program, Declarations}
-use Rattle.il_model.specs.Words.{is_reserved}
+use Rattle.il_model.specs.Words.{is_reserved, split_last}
 use Rattle.il_reader.specs.Tokens.{Token}
 use Rattle.il_reader.specs.Grammar.{OperandText, Constant, Direct, Named, Field, BehindText, Nothing, Given, Target, Opened, Called, ArgumentText, arguments_of, OperationText, LineText, Labelled, Plain, ProgramText}
 use Rattle.il_declarations.specs.declared.fault.DeclKind.{DeclKind}
 use Rattle.il_declarations.specs.declared.fault.DeclKind.TheVariants as kinds
 use Rattle.il_declarations.specs.declared.fault.FaultAt.{FaultAt}
 use Rattle.il_declarations.specs.Resolution.{capitals, opens, with_opening, plain}
-use Rattle.il_declarations.specs.Walk.{◌>>=◌, each, refused, nothing, has_name, has_instance, declare_block, direct, constant, operand_of, behind_of, argument_of, pushed_argument, behind_arguments, instruction_of, room, label_of, instruct_labelled, instruct_plain, instruct, program_at}
-use Rattle.il_declarations.specs.Declaring.{DeclaredName, names_of, value_operand, operand_in, operand_behind, arguments_behind, IsArgumentOf, IsBehindLabel, IsInstructionOf, IsProgramOf}
+use Rattle.il_declarations.specs.Walk.{◌>>=◌, each, refused, nothing, has_instance, declare_block, direct, constant, field_named, operand_of, behind_of, argument_of, pushed_argument, behind_arguments, instruction_of, room, label_of, instruct_labelled, instruct_plain, instruct, program_at}
+use Rattle.il_declarations.specs.Declaring.{DeclaredName, names_of, value_operand, field_or, operand_in, operand_behind, arguments_behind, IsArgumentOf, IsBehindLabel, IsInstructionOf, IsProgramOf}
+use Rattle.il_declarations.specs.TextFaults.{names_field}
 use Rattle.il_declarations.proofs.FaultList.{when, beside, operand_faults, behind_faults, operation_faults, line_faults, faults_of}
 use Rattle.il_declarations.proofs.Agreeing.{Agrees, done, ok_is, then_agrees, made_agrees, last_agrees, each_agrees, each_kept, bind_ok, each_by_itself}
 use Rattle.il_declarations.proofs.Names.{made, name_known, instance_known}
@@ -42,6 +43,18 @@ asked_gives : {A : Type 0} (b : Bool) (f : FaultAt) (x y : A) → cond b (done x
 asked_gives true f x y e = ok_is x y e
 asked_gives false f x y e = absurd cc
 
+-- a name that is no variable's is a field's, or unknown
+field_agrees : (dialect : Dialect) (names : List DeclaredName) (t : Token) (o : Option (List ℕ × List ℕ)) → Agrees (field_named (made dialect names) t o) (when (not (names_field dialect names o)) kinds.UnknownName t.left)
+field_agrees dialect names t None = ([], refl)
+field_agrees dialect names t (Some (x, field)) = asked_agrees _ _ (instance_known dialect names x) kinds.UnknownName t.left (operands.Field x field)
+
+named_agrees : (dialect : Dialect) (names : List DeclaredName) (t : Token) (a b : Bool) → a ≡ b → (o : Option (List ℕ × List ℕ))
+    → Agrees (cond a (done (operands.Variable (capitals t.text))) (field_named (made dialect names) t o)) (when (not (b || names_field dialect names o)) kinds.UnknownName t.left)
+named_agrees dialect names t true true e o = refl
+named_agrees dialect names t false false e o = field_agrees dialect names t o
+named_agrees dialect names t true false e o = absurd cc
+named_agrees dialect names t false true e o = absurd cc
+
 operand_agrees : (dialect : Dialect) → (names : List DeclaredName) (x : OperandText) → Agrees (operand_of dialect (made dialect names) x) (operand_faults dialect names x)
 operand_agrees dialect names (Constant t) = by_literal (literal_in dialect t.text)
   where
@@ -54,26 +67,42 @@ operand_agrees dialect names (Direct t) = by_location (location_in dialect t.tex
     by_location : (o : Option Loc) → Agrees (direct t o) (when (is_none o) kinds.BadLocation t.left)
     by_location None = ([], refl)
     by_location (Some loc) = refl
-operand_agrees dialect names (Named t) = asked_agrees _ _ (name_known dialect names (capitals t.text)) kinds.UnknownName t.left (operands.Variable (capitals t.text))
+operand_agrees dialect names (Named t) = named_agrees dialect names t _ _ (name_known dialect names (capitals t.text)) (split_last (capitals t.text))
 operand_agrees dialect names (Field t f) = asked_agrees _ _ (instance_known dialect names (capitals t.text)) kinds.UnknownName t.left (operands.Field (capitals t.text) (capitals f.text))
 
 abbrev some : Operand → Option Operand
 some x = Some x
 
-operand_gives : (dialect : Dialect) → (known : Declarations) (x : OperandText) (y : Operand) → operand_of dialect known x ≡ Ok y → operand_in dialect x ≡ Some y
-operand_gives dialect known (Constant t) y e = by_literal (literal_in dialect t.text) e
+field_gives : (a b : Bool) (f : FaultAt) (x y other : Operand) → a ≡ b → cond a (done x) (Err f) ≡ Ok y → cond b x other ≡ y
+field_gives true true f x y other e h = ok_is x y h
+field_gives true false f x y other e h = absurd cc
+field_gives false b f x y other e h = absurd cc
+
+split_gives : (dialect : Dialect) (names : List DeclaredName) (t : Token) (y : Operand) (o : Option (List ℕ × List ℕ)) → field_named (made dialect names) t o ≡ Ok y → field_or dialect names (capitals t.text) o ≡ y
+split_gives dialect names t y None h = absurd cc
+split_gives dialect names t y (Some (x, field)) h = field_gives _ _ _ (operands.Field x field) y (operands.Variable (capitals t.text)) (instance_known dialect names x) h
+
+named_gives : (dialect : Dialect) (names : List DeclaredName) (t : Token) (y : Operand) (a b : Bool) → a ≡ b → (o : Option (List ℕ × List ℕ))
+    → cond a (done (operands.Variable (capitals t.text))) (field_named (made dialect names) t o) ≡ Ok y → cond b (operands.Variable (capitals t.text)) (field_or dialect names (capitals t.text) o) ≡ y
+named_gives dialect names t y true true e o h = ok_is (operands.Variable (capitals t.text)) y h
+named_gives dialect names t y false false e o h = split_gives dialect names t y o h
+named_gives dialect names t y true false e o h = absurd cc
+named_gives dialect names t y false true e o h = absurd cc
+
+operand_gives : (dialect : Dialect) → (names : List DeclaredName) (x : OperandText) (y : Operand) → operand_of dialect (made dialect names) x ≡ Ok y → operand_in dialect names x ≡ Some y
+operand_gives dialect names (Constant t) y e = by_literal (literal_in dialect t.text) e
   where
     by_literal : (o : Option Literal) → constant t o ≡ Ok y → option_map value_operand o ≡ Some y
     by_literal None h = absurd cc
     by_literal (Some (Bare z)) h = ap some (ok_is (operands.Bare z) y h)
     by_literal (Some (Typed v)) h = ap some (ok_is (operands.Literal v) y h)
-operand_gives dialect known (Direct t) y e = by_location (location_in dialect t.text) e
+operand_gives dialect names (Direct t) y e = by_location (location_in dialect t.text) e
   where
     by_location : (o : Option Loc) → direct t o ≡ Ok y → option_map (λ loc. operands.Direct loc) o ≡ Some y
     by_location None h = absurd cc
     by_location (Some loc) h = ap some (ok_is (operands.Direct loc) y h)
-operand_gives dialect known (Named t) y e = ap some (asked_gives (has_name known (capitals t.text)) _ _ y e)
-operand_gives dialect known (Field t f) y e = ap some (asked_gives (has_instance known (capitals t.text)) _ _ y e)
+operand_gives dialect names (Named t) y e = ap some (named_gives dialect names t y _ _ (name_known dialect names (capitals t.text)) (split_last (capitals t.text)) e)
+operand_gives dialect names (Field t f) y e = ap some (asked_gives (has_instance (made dialect names) (capitals t.text)) _ _ y e)
 
 behind_agrees : (dialect : Dialect) → (names : List DeclaredName) (b : BehindText) → Agrees (behind_of dialect (made dialect names) b) (behind_faults dialect names b)
 behind_agrees dialect names Nothing = refl
@@ -83,13 +112,13 @@ behind_agrees dialect names (Opened None) = refl
 behind_agrees dialect names (Opened (Some x)) = operand_agrees dialect names x
 behind_agrees dialect names (Called c) = asked_agrees _ _ (instance_known dialect names (capitals c.instance.text)) kinds.UnknownName c.instance.left (operands.Instance (capitals c.instance.text))
 
-behind_gives : (dialect : Dialect) → (known : Declarations) (b : BehindText) (y : Operand) → behind_of dialect known b ≡ Ok y → operand_behind dialect b ≡ Some y
-behind_gives dialect known Nothing y e = ap some (ok_is operands.Absent y e)
-behind_gives dialect known (Given x) y e = operand_gives dialect known x y e
-behind_gives dialect known (Target t) y e = ap some (ok_is (operands.Label (capitals t.text)) y e)
-behind_gives dialect known (Opened None) y e = ap some (ok_is operands.Absent y e)
-behind_gives dialect known (Opened (Some x)) y e = operand_gives dialect known x y e
-behind_gives dialect known (Called c) y e = ap some (asked_gives (has_instance known (capitals c.instance.text)) _ _ y e)
+behind_gives : (dialect : Dialect) → (names : List DeclaredName) (b : BehindText) (y : Operand) → behind_of dialect (made dialect names) b ≡ Ok y → operand_behind dialect names b ≡ Some y
+behind_gives dialect names Nothing y e = ap some (ok_is operands.Absent y e)
+behind_gives dialect names (Given x) y e = operand_gives dialect names x y e
+behind_gives dialect names (Target t) y e = ap some (ok_is (operands.Label (capitals t.text)) y e)
+behind_gives dialect names (Opened None) y e = ap some (ok_is operands.Absent y e)
+behind_gives dialect names (Opened (Some x)) y e = operand_gives dialect names x y e
+behind_gives dialect names (Called c) y e = ap some (asked_gives (has_instance (made dialect names) (capitals c.instance.text)) _ _ y e)
 
 -- ---- arguments
 
@@ -123,26 +152,26 @@ arguments_agree dialect names (Called c) =
     subst (λ (fs : List FaultAt). Agrees (each (pushed_argument dialect (made dialect names)) [] (arguments_of c)) fs) (each_by_itself (λ a. operand_faults dialect names a.operand) [] (arguments_of c))
     (each_agrees Anything (pushed_argument dialect (made dialect names)) (λ b a. operand_faults dialect names a.operand) (λ b a found any. argument_agrees dialect names a found) (λ b a found more any e. tt) [] (arguments_of c) [] tt)
 
-argument_gives : (dialect : Dialect) → (known : Declarations) (a : ArgumentText) (x : Argument) → argument_of dialect known a ≡ Ok x → IsArgumentOf dialect a x
+argument_gives : (dialect : Dialect) → (names : List DeclaredName) (a : ArgumentText) (x : Argument) → argument_of dialect (made dialect names) a ≡ Ok x → IsArgumentOf dialect names a x
 unfolding argument_of
-argument_gives dialect known a x e =
-    let m = bind_ok (operand_of dialect known a.operand) (λ y. Ok (record { field = capitals a.field.text; side = a.side; operand = y })) x e in
-    subst (IsArgumentOf dialect a) (ok_is (record { field = capitals a.field.text; side = a.side; operand = m.0 }) x m.2) (record { field = refl; side = refl; operand = operand_gives dialect known a.operand m.0 m.1 })
+argument_gives dialect names a x e =
+    let m = bind_ok (operand_of dialect (made dialect names) a.operand) (λ y. Ok (record { field = capitals a.field.text; side = a.side; operand = y })) x e in
+    subst (IsArgumentOf dialect names a) (ok_is (record { field = capitals a.field.text; side = a.side; operand = m.0 }) x m.2) (record { field = refl; side = refl; operand = operand_gives dialect names a.operand m.0 m.1 })
 
-argument_kept : (dialect : Dialect) → (known : Declarations) (before : List ArgumentText) (a : ArgumentText) (found more : List Argument) → AllZip (IsArgumentOf dialect) before found → pushed_argument dialect known found a ≡ Ok more → AllZip (IsArgumentOf dialect) (before ++ a ∷ []) more
-argument_kept dialect known before a found more all e =
-    let m = bind_ok (argument_of dialect known a) (λ x. Ok (found ++ x ∷ [])) more e in
-    subst (λ (xs : List Argument). AllZip (IsArgumentOf dialect) (before ++ a ∷ []) xs) (ok_is (found ++ m.0 ∷ []) more m.2) (zip_push (IsArgumentOf dialect) before found a m.0 all (argument_gives dialect known a m.0 m.1))
+argument_kept : (dialect : Dialect) → (names : List DeclaredName) (before : List ArgumentText) (a : ArgumentText) (found more : List Argument) → AllZip (IsArgumentOf dialect names) before found → pushed_argument dialect (made dialect names) found a ≡ Ok more → AllZip (IsArgumentOf dialect names) (before ++ a ∷ []) more
+argument_kept dialect names before a found more all e =
+    let m = bind_ok (argument_of dialect (made dialect names) a) (λ x. Ok (found ++ x ∷ [])) more e in
+    subst (λ (xs : List Argument). AllZip (IsArgumentOf dialect names) (before ++ a ∷ []) xs) (ok_is (found ++ m.0 ∷ []) more m.2) (zip_push (IsArgumentOf dialect names) before found a m.0 all (argument_gives dialect names a m.0 m.1))
 
 abbrev no_arguments : List Argument
 no_arguments = []
 
-arguments_given : (dialect : Dialect) → (known : Declarations) (b : BehindText) (xs : List Argument) → behind_arguments dialect known b ≡ Ok xs → AllZip (IsArgumentOf dialect) (arguments_behind b) xs
-arguments_given dialect known Nothing xs e = subst (λ (ys : List Argument). AllZip (IsArgumentOf dialect) [] ys) (ok_is no_arguments xs e) tt
-arguments_given dialect known (Given x) xs e = subst (λ (ys : List Argument). AllZip (IsArgumentOf dialect) [] ys) (ok_is no_arguments xs e) tt
-arguments_given dialect known (Target t) xs e = subst (λ (ys : List Argument). AllZip (IsArgumentOf dialect) [] ys) (ok_is no_arguments xs e) tt
-arguments_given dialect known (Opened o) xs e = subst (λ (ys : List Argument). AllZip (IsArgumentOf dialect) [] ys) (ok_is no_arguments xs e) tt
-arguments_given dialect known (Called c) xs e = each_kept (λ before found. AllZip (IsArgumentOf dialect) before found) (pushed_argument dialect known) (argument_kept dialect known) [] (arguments_of c) [] xs tt e
+arguments_given : (dialect : Dialect) → (names : List DeclaredName) (b : BehindText) (xs : List Argument) → behind_arguments dialect (made dialect names) b ≡ Ok xs → AllZip (IsArgumentOf dialect names) (arguments_behind b) xs
+arguments_given dialect names Nothing xs e = subst (λ (ys : List Argument). AllZip (IsArgumentOf dialect names) [] ys) (ok_is no_arguments xs e) tt
+arguments_given dialect names (Given x) xs e = subst (λ (ys : List Argument). AllZip (IsArgumentOf dialect names) [] ys) (ok_is no_arguments xs e) tt
+arguments_given dialect names (Target t) xs e = subst (λ (ys : List Argument). AllZip (IsArgumentOf dialect names) [] ys) (ok_is no_arguments xs e) tt
+arguments_given dialect names (Opened o) xs e = subst (λ (ys : List Argument). AllZip (IsArgumentOf dialect names) [] ys) (ok_is no_arguments xs e) tt
+arguments_given dialect names (Called c) xs e = each_kept (λ before found. AllZip (IsArgumentOf dialect names) before found) (pushed_argument dialect (made dialect names)) (argument_kept dialect names) [] (arguments_of c) [] xs tt e
 
 -- ---- lines
 
@@ -156,22 +185,22 @@ instruction_agrees dialect names label (Some o) =
     then_agrees (behind_of dialect (made dialect names) o.behind) (λ x. behind_arguments dialect (made dialect names) o.behind >>= λ arguments. Ok (instruction label o x arguments)) _ _ (behind_agrees dialect names o.behind)
     (λ x e. made_agrees (behind_arguments dialect (made dialect names) o.behind) (λ arguments. instruction label o x arguments) _ (arguments_agree dialect names o.behind))
 
-record IsGiven (dialect : Dialect) (name : Option (List ℕ)) (o : Option OperationText) (x : Instr) : Type 0 where
+record IsGiven (dialect : Dialect) (names : List DeclaredName) (name : Option (List ℕ)) (o : Option OperationText) (x : Instr) : Type 0 where
   label : x.label ≡ name
-  is : IsBehindLabel dialect o x
+  is : IsBehindLabel dialect names o x
 
-instruction_gives : (dialect : Dialect) → (known : Declarations) (label : Option (List ℕ)) (o : Option OperationText) (x : Instr) → instruction_of dialect known label o ≡ Ok x → IsGiven dialect label o x
+instruction_gives : (dialect : Dialect) → (names : List DeclaredName) (label : Option (List ℕ)) (o : Option OperationText) (x : Instr) → instruction_of dialect (made dialect names) label o ≡ Ok x → IsGiven dialect names label o x
 unfolding instruction_of
-instruction_gives dialect known label None x e =
-    subst (IsGiven dialect label None) (ok_is (record { label = label; op = ops.Empty; modifier = plain; operand = operands.Absent; arguments = [] }) x e) (record { label = refl; is = record { op = refl; modifier = refl; operand = refl; arguments = refl } })
-instruction_gives dialect known label (Some o) x e =
-    let a = bind_ok (behind_of dialect known o.behind) (λ y. behind_arguments dialect known o.behind >>= λ arguments. Ok (instruction label o y arguments)) x e in
-    let b = bind_ok (behind_arguments dialect known o.behind) (λ arguments. Ok (instruction label o a.0 arguments)) x a.2 in
-    subst (IsGiven dialect label (Some o)) (ok_is (instruction label o a.0 b.0) x b.2)
-    (record { label = refl; is = record { op = refl; modifier = refl; operand = behind_gives dialect known o.behind a.0 a.1; arguments = arguments_given dialect known o.behind b.0 b.1 } })
+instruction_gives dialect names label None x e =
+    subst (IsGiven dialect names label None) (ok_is (record { label = label; op = ops.Empty; modifier = plain; operand = operands.Absent; arguments = [] }) x e) (record { label = refl; is = record { op = refl; modifier = refl; operand = refl; arguments = refl } })
+instruction_gives dialect names label (Some o) x e =
+    let a = bind_ok (behind_of dialect (made dialect names) o.behind) (λ y. behind_arguments dialect (made dialect names) o.behind >>= λ arguments. Ok (instruction label o y arguments)) x e in
+    let b = bind_ok (behind_arguments dialect (made dialect names) o.behind) (λ arguments. Ok (instruction label o a.0 arguments)) x a.2 in
+    subst (IsGiven dialect names label (Some o)) (ok_is (instruction label o a.0 b.0) x b.2)
+    (record { label = refl; is = record { op = refl; modifier = refl; operand = behind_gives dialect names o.behind a.0 a.1; arguments = arguments_given dialect names o.behind b.0 b.1 } })
 
-room_agrees : (dialect : Dialect) → (before : List LineText) (code : List Instr) (left : ℕ) → AllZip (IsInstructionOf dialect) before code → Agrees (room code left) (when (nat_le 4096 (length before)) kinds.TooMany left)
-room_agrees dialect before code left all = last_agrees _ _ (ap (leb 4096) (zip_length (IsInstructionOf dialect) before code all)) kinds.TooMany left tt
+room_agrees : (dialect : Dialect) (names : List DeclaredName) → (before : List LineText) (code : List Instr) (left : ℕ) → AllZip (IsInstructionOf dialect names) before code → Agrees (room code left) (when (nat_le 4096 (length before)) kinds.TooMany left)
+room_agrees dialect names before code left all = last_agrees _ _ (ap (leb 4096) (zip_length (IsInstructionOf dialect names) before code all)) kinds.TooMany left tt
 
 label_agrees : (t : Token) → Agrees (label_of t) (when (is_reserved (capitals t.text)) kinds.ReservedName t.left)
 label_agrees t = last_agrees (is_reserved (capitals t.text)) _ refl kinds.ReservedName t.left (capitals t.text)
@@ -183,50 +212,50 @@ label_gives t name e = chosen (is_reserved (capitals t.text)) e
     chosen true h = absurd cc
     chosen false h = ok_is (capitals t.text) name h
 
-labelled_agrees : (dialect : Dialect) → (names : List DeclaredName) (before : List LineText) (code : List Instr) (t : Token) (o : Option OperationText) → AllZip (IsInstructionOf dialect) before code → Agrees (instruct_labelled dialect (made dialect names) code t o) (line_faults dialect names before (Labelled t o))
+labelled_agrees : (dialect : Dialect) → (names : List DeclaredName) (before : List LineText) (code : List Instr) (t : Token) (o : Option OperationText) → AllZip (IsInstructionOf dialect names) before code → Agrees (instruct_labelled dialect (made dialect names) code t o) (line_faults dialect names before (Labelled t o))
 unfolding instruct_labelled
 labelled_agrees dialect names before code t o all =
     then_agrees (label_of t) (λ label. room code t.left >>= λ here. instruction_of dialect (made dialect names) (Some label) o >>= λ line. Ok (code ++ line ∷ [])) _ _ (label_agrees t)
-    (λ label e. then_agrees (room code t.left) (λ here. instruction_of dialect (made dialect names) (Some label) o >>= λ line. Ok (code ++ line ∷ [])) _ _ (room_agrees dialect before code t.left all)
+    (λ label e. then_agrees (room code t.left) (λ here. instruction_of dialect (made dialect names) (Some label) o >>= λ line. Ok (code ++ line ∷ [])) _ _ (room_agrees dialect names before code t.left all)
     (λ here f. made_agrees (instruction_of dialect (made dialect names) (Some label) o) (λ line. code ++ line ∷ []) _ (instruction_agrees dialect names (Some label) o)))
 
-plain_agrees : (dialect : Dialect) → (names : List DeclaredName) (before : List LineText) (code : List Instr) (o : OperationText) → AllZip (IsInstructionOf dialect) before code → Agrees (instruct_plain dialect (made dialect names) code o) (line_faults dialect names before (Plain o))
+plain_agrees : (dialect : Dialect) → (names : List DeclaredName) (before : List LineText) (code : List Instr) (o : OperationText) → AllZip (IsInstructionOf dialect names) before code → Agrees (instruct_plain dialect (made dialect names) code o) (line_faults dialect names before (Plain o))
 unfolding instruct_plain
 plain_agrees dialect names before code o all =
-    then_agrees (room code o.operator.left) (λ here. instruction_of dialect (made dialect names) None (Some o) >>= λ line. Ok (code ++ line ∷ [])) _ _ (room_agrees dialect before code o.operator.left all)
+    then_agrees (room code o.operator.left) (λ here. instruction_of dialect (made dialect names) None (Some o) >>= λ line. Ok (code ++ line ∷ [])) _ _ (room_agrees dialect names before code o.operator.left all)
     (λ here f. made_agrees (instruction_of dialect (made dialect names) None (Some o)) (λ line. code ++ line ∷ []) _ (instruction_agrees dialect names None (Some o)))
 
-line_agrees : (dialect : Dialect) → (names : List DeclaredName) (before : List LineText) (l : LineText) (code : List Instr) → AllZip (IsInstructionOf dialect) before code → Agrees (instruct dialect (made dialect names) code l) (line_faults dialect names before l)
+line_agrees : (dialect : Dialect) → (names : List DeclaredName) (before : List LineText) (l : LineText) (code : List Instr) → AllZip (IsInstructionOf dialect names) before code → Agrees (instruct dialect (made dialect names) code l) (line_faults dialect names before l)
 line_agrees dialect names before (Labelled t o) code all = labelled_agrees dialect names before code t o all
 line_agrees dialect names before (Plain o) code all = plain_agrees dialect names before code o all
 
-labelled_kept : (dialect : Dialect) → (known : Declarations) (before : List LineText) (code more : List Instr) (t : Token) (o : Option OperationText) → AllZip (IsInstructionOf dialect) before code → instruct_labelled dialect known code t o ≡ Ok more → AllZip (IsInstructionOf dialect) (before ++ Labelled t o ∷ []) more
+labelled_kept : (dialect : Dialect) → (names : List DeclaredName) (before : List LineText) (code more : List Instr) (t : Token) (o : Option OperationText) → AllZip (IsInstructionOf dialect names) before code → instruct_labelled dialect (made dialect names) code t o ≡ Ok more → AllZip (IsInstructionOf dialect names) (before ++ Labelled t o ∷ []) more
 unfolding instruct_labelled
-labelled_kept dialect known before code more t o all e =
-    let a = bind_ok (label_of t) (λ label. room code t.left >>= λ here. instruction_of dialect known (Some label) o >>= λ line. Ok (code ++ line ∷ [])) more e in
-    let b = bind_ok (room code t.left) (λ here. instruction_of dialect known (Some a.0) o >>= λ line. Ok (code ++ line ∷ [])) more a.2 in
-    let c = bind_ok (instruction_of dialect known (Some a.0) o) (λ line. Ok (code ++ line ∷ [])) more b.2 in
-    let g = instruction_gives dialect known (Some a.0) o c.0 c.1 in
-    subst (λ (xs : List Instr). AllZip (IsInstructionOf dialect) (before ++ Labelled t o ∷ []) xs) (ok_is (code ++ c.0 ∷ []) more c.2)
-    (zip_push (IsInstructionOf dialect) before code (Labelled t o) c.0 all (g.label ∙ ap (λ (name : List ℕ). Some name) (sym (label_gives t a.0 a.1)), g.is))
+labelled_kept dialect names before code more t o all e =
+    let a = bind_ok (label_of t) (λ label. room code t.left >>= λ here. instruction_of dialect (made dialect names) (Some label) o >>= λ line. Ok (code ++ line ∷ [])) more e in
+    let b = bind_ok (room code t.left) (λ here. instruction_of dialect (made dialect names) (Some a.0) o >>= λ line. Ok (code ++ line ∷ [])) more a.2 in
+    let c = bind_ok (instruction_of dialect (made dialect names) (Some a.0) o) (λ line. Ok (code ++ line ∷ [])) more b.2 in
+    let g = instruction_gives dialect names (Some a.0) o c.0 c.1 in
+    subst (λ (xs : List Instr). AllZip (IsInstructionOf dialect names) (before ++ Labelled t o ∷ []) xs) (ok_is (code ++ c.0 ∷ []) more c.2)
+    (zip_push (IsInstructionOf dialect names) before code (Labelled t o) c.0 all (g.label ∙ ap (λ (name : List ℕ). Some name) (sym (label_gives t a.0 a.1)), g.is))
 
-plain_kept : (dialect : Dialect) → (known : Declarations) (before : List LineText) (code more : List Instr) (o : OperationText) → AllZip (IsInstructionOf dialect) before code → instruct_plain dialect known code o ≡ Ok more → AllZip (IsInstructionOf dialect) (before ++ Plain o ∷ []) more
+plain_kept : (dialect : Dialect) → (names : List DeclaredName) (before : List LineText) (code more : List Instr) (o : OperationText) → AllZip (IsInstructionOf dialect names) before code → instruct_plain dialect (made dialect names) code o ≡ Ok more → AllZip (IsInstructionOf dialect names) (before ++ Plain o ∷ []) more
 unfolding instruct_plain
-plain_kept dialect known before code more o all e =
-    let b = bind_ok (room code o.operator.left) (λ here. instruction_of dialect known None (Some o) >>= λ line. Ok (code ++ line ∷ [])) more e in
-    let c = bind_ok (instruction_of dialect known None (Some o)) (λ line. Ok (code ++ line ∷ [])) more b.2 in
-    let g = instruction_gives dialect known None (Some o) c.0 c.1 in
-    subst (λ (xs : List Instr). AllZip (IsInstructionOf dialect) (before ++ Plain o ∷ []) xs) (ok_is (code ++ c.0 ∷ []) more c.2) (zip_push (IsInstructionOf dialect) before code (Plain o) c.0 all (g.label, g.is))
+plain_kept dialect names before code more o all e =
+    let b = bind_ok (room code o.operator.left) (λ here. instruction_of dialect (made dialect names) None (Some o) >>= λ line. Ok (code ++ line ∷ [])) more e in
+    let c = bind_ok (instruction_of dialect (made dialect names) None (Some o)) (λ line. Ok (code ++ line ∷ [])) more b.2 in
+    let g = instruction_gives dialect names None (Some o) c.0 c.1 in
+    subst (λ (xs : List Instr). AllZip (IsInstructionOf dialect names) (before ++ Plain o ∷ []) xs) (ok_is (code ++ c.0 ∷ []) more c.2) (zip_push (IsInstructionOf dialect names) before code (Plain o) c.0 all (g.label, g.is))
 
-line_kept : (dialect : Dialect) → (known : Declarations) (before : List LineText) (l : LineText) (code more : List Instr) → AllZip (IsInstructionOf dialect) before code → instruct dialect known code l ≡ Ok more → AllZip (IsInstructionOf dialect) (before ++ l ∷ []) more
-line_kept dialect known before (Labelled t o) code more all e = labelled_kept dialect known before code more t o all e
-line_kept dialect known before (Plain o) code more all e = plain_kept dialect known before code more o all e
+line_kept : (dialect : Dialect) → (names : List DeclaredName) (before : List LineText) (l : LineText) (code more : List Instr) → AllZip (IsInstructionOf dialect names) before code → instruct dialect (made dialect names) code l ≡ Ok more → AllZip (IsInstructionOf dialect names) (before ++ l ∷ []) more
+line_kept dialect names before (Labelled t o) code more all e = labelled_kept dialect names before code more t o all e
+line_kept dialect names before (Plain o) code more all e = plain_kept dialect names before code more o all e
 
 lines_agree : (dialect : Dialect) → (names : List DeclaredName) (ls : List LineText) → Agrees (each (instruct dialect (made dialect names)) [] ls) (beside (line_faults dialect names) [] ls)
-lines_agree dialect names ls = each_agrees (λ before code. AllZip (IsInstructionOf dialect) before code) (instruct dialect (made dialect names)) (line_faults dialect names) (line_agrees dialect names) (line_kept dialect (made dialect names)) [] ls [] tt
+lines_agree dialect names ls = each_agrees (λ before code. AllZip (IsInstructionOf dialect names) before code) (instruct dialect (made dialect names)) (line_faults dialect names) (line_agrees dialect names) (line_kept dialect names) [] ls [] tt
 
-lines_kept : (dialect : Dialect) → (known : Declarations) (ls : List LineText) (code : List Instr) → each (instruct dialect known) [] ls ≡ Ok code → AllZip (IsInstructionOf dialect) ls code
-lines_kept dialect known ls code e = each_kept (λ before found. AllZip (IsInstructionOf dialect) before found) (instruct dialect known) (line_kept dialect known) [] ls [] code tt e
+lines_kept : (dialect : Dialect) → (names : List DeclaredName) (ls : List LineText) (code : List Instr) → each (instruct dialect (made dialect names)) [] ls ≡ Ok code → AllZip (IsInstructionOf dialect names) ls code
+lines_kept dialect names ls code e = each_kept (λ before found. AllZip (IsInstructionOf dialect names) before found) (instruct dialect (made dialect names)) (line_kept dialect names) [] ls [] code tt e
 
 -- ---- a text
 
@@ -252,5 +281,5 @@ program_kept dialect p P e =
     (record {
       variables = ap (λ (known : Declarations). known.variables) kept.keeps ∙ kept.starts;
       instances = ap (λ (known : Declarations). known.instances) kept.keeps;
-      code = lines_kept dialect a.0 p.lines b.0 b.1;
+      code = lines_kept dialect (names_of p) p.lines b.0 (subst (λ (y : Declarations). each (instruct dialect y) [] p.lines ≡ Ok b.0) kept.keeps b.1);
     })

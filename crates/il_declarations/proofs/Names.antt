@@ -14,7 +14,7 @@ use Rattle.il_model.specs.declared.program.Loc.{Loc}
 use Rattle.il_model.specs.declared.program.Variable.{Variable}
 use Rattle.il_model.specs.declared.program.Instance.{Instance}
 use Rattle.il_model.specs.Program.{Declarations}
-use Rattle.il_model.specs.Words.{same_name}
+use Rattle.il_model.specs.Words.{same_name, stands_under}
 use Rattle.il_model.specs.Codes.{is_taken, has_code}
 use Rattle.il_model.proofs.Positions.{position_first, position_later}
 use Rattle.il_model.proofs.WrittenLocations.{parts_seen}
@@ -25,7 +25,8 @@ use Rattle.il_declarations.specs.declared.variables.DeclaredType.{DeclaredType}
 use Rattle.il_declarations.specs.declared.variables.DeclaredType.TheVariants.{Elementary, Block}
 use Rattle.il_declarations.specs.Resolution.{capitals, variable, place_as}
 use Rattle.il_declarations.specs.Walk.{has_name, has_instance, is_full, planned_value, with_declared}
-use Rattle.il_declarations.specs.Declaring.{DeclaredName, type_in, is_kind, is_instance, is_variable, written_location, start_of, variable_by, instance_by, instance_of, is_called, is_declared, names_variable, names_instance, is_occupied}
+use Rattle.il_declarations.specs.Walk as walk
+use Rattle.il_declarations.specs.Declaring.{DeclaredName, type_in, is_kind, is_instance, is_variable, written_location, start_of, variable_by, instance_by, instance_of, is_called, is_declared, names_variable, names_instance, is_shadowed, is_occupied}
 use Rattle.il_declarations.specs.TextFaults.{has_no_room}
 
 -- Whatever stands for the first value of an instance, of an unknown type or of a bad literal, is never used.
@@ -110,12 +111,47 @@ both true false a b d e = e
 both false true a b d e = refl
 both false false a b d e = e
 
-pub declared_known : (dialect : Dialect) → (names : List DeclaredName) (n : List ℕ) → (has_name (made dialect names) n || has_instance (made dialect names) n) ≡ is_declared names n
+declared_known : (dialect : Dialect) → (names : List DeclaredName) (n : List ℕ) → (has_name (made dialect names) n || has_instance (made dialect names) n) ≡ is_declared names n
 declared_known dialect names n = rw (name_known dialect names n, instance_known dialect names n) (together names)
   where
     together : (xs : List DeclaredName) → (names_variable dialect xs n || names_instance dialect xs n) ≡ is_declared xs n
     together [] = refl
     together (x ∷ xs) = both (is_instance dialect x) (is_called n x) (names_variable dialect xs n) (names_instance dialect xs n) (is_declared xs n) (together xs)
+
+-- ---- variables under instances
+
+variable_under : (dialect : Dialect) → (r : Bool) (name n : List ℕ) (loc : Option Loc) (initial : Option Token) (o : Option DeclaredType) → passes (λ (v : Variable). stands_under n v.name) (planned_by dialect r name loc initial o) ≡ (not (is_kind o) && stands_under n name)
+variable_under dialect r name n loc initial None = refl
+variable_under dialect r name n loc initial (Some (Elementary type)) = refl
+variable_under dialect r name n loc initial (Some (Block kind)) = refl
+
+instance_under : (r : Bool) (name n : List ℕ) (o : Option DeclaredType) → passes (λ (x : Instance). stands_under x.name n) (instance_by r name o) ≡ (is_kind o && stands_under name n)
+instance_under r name n None = refl
+instance_under r name n (Some (Elementary type)) = refl
+instance_under r name n (Some (Block kind)) = refl
+
+instances_over : (dialect : Dialect) (names : List DeclaredName) (n : List ℕ) → list_any (λ (x : Instance). stands_under x.name n) (made dialect names).instances ≡ list_any (λ y. is_instance dialect y && stands_under (capitals y.name.text) n) names
+instances_over dialect names n = any_kept (instance_of dialect) (λ (x : Instance). stands_under x.name n) (λ y. is_instance dialect y && stands_under (capitals y.name.text) n) (λ y. instance_under y.retained (capitals y.name.text) n (type_in dialect y.by)) names
+
+variables_under : (dialect : Dialect) (names : List DeclaredName) (n : List ℕ) → list_any (λ (v : Variable). stands_under n v.name) (made dialect names).variables ≡ list_any (λ y. is_variable dialect y && stands_under n (capitals y.name.text)) names
+variables_under dialect names n = any_kept (planned dialect) (λ (v : Variable). stands_under n v.name) (λ y. is_variable dialect y && stands_under n (capitals y.name.text)) (λ y. variable_under dialect y.retained (capitals y.name.text) n (written_location dialect y.by.names) y.by.initial (type_in dialect y.by)) names
+
+shadow_known : (dialect : Dialect) (names : List DeclaredName) (x : DeclaredName) → walk.is_shadowed (type_in dialect x.by) (made dialect names) (capitals x.name.text) ≡ is_shadowed dialect names x
+shadow_known dialect names x = by_type (type_in dialect x.by)
+  where
+    by_type : (o : Option DeclaredType) → walk.is_shadowed o (made dialect names) (capitals x.name.text)
+        ≡ list_any (λ y. cond (is_kind o) (is_variable dialect y && stands_under (capitals x.name.text) (capitals y.name.text)) (is_instance dialect y && stands_under (capitals y.name.text) (capitals x.name.text))) names
+    by_type None = instances_over dialect names (capitals x.name.text)
+    by_type (Some (Elementary type)) = instances_over dialect names (capitals x.name.text)
+    by_type (Some (Block kind)) = variables_under dialect names (capitals x.name.text)
+
+-- what the walk refuses as declared before
+pub taken_known : (dialect : Dialect) (names : List DeclaredName) (x : DeclaredName) → let n = capitals x.name.text in
+    ((has_name (made dialect names) n || has_instance (made dialect names) n) || walk.is_shadowed (type_in dialect x.by) (made dialect names) n) ≡ (is_declared names n || is_shadowed dialect names x)
+taken_known dialect names x =
+    let n = capitals x.name.text in
+    ap (λ (b : Bool). b || walk.is_shadowed (type_in dialect x.by) (made dialect names) n) (declared_known dialect names n)
+    ∙ ap (λ (b : Bool). is_declared names n || b) (shadow_known dialect names x)
 
 -- ---- counting
 

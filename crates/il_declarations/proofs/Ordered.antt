@@ -1,5 +1,5 @@
 -- The faults of a text stand in the order of the text, and at one place in the order of their numbers.
-use Rattle.std.proofs.Common.{◌≡◌, inl, inr, ℕ, suc, ◌<◌, ◌≤◌, Bool, true, false, List, [], ◌∷◌, ◌++◌, length, map, Option, Some, None, refl, sym, ap, subst, arith, not, append_assoc}
+use Rattle.std.proofs.Common.{◌≡◌, inl, inr, ℕ, suc, ◌<◌, ◌≤◌, Bool, true, false, List, [], ◌∷◌, ◌++◌, length, map, Option, Some, None, refl, sym, ap, subst, arith, not, append_assoc, ◌||◌}
 use Rattle.std.specs.Prelude.{is_none, nat_le}
 use Rattle.std.specs.List.{flat_map, AllByRecursion}
 use Rattle.std.proofs.lemmas.List.{append-nil}
@@ -8,7 +8,7 @@ use Rattle.il_model.specs.Dialects.{literal_in, location_in}
 use Rattle.il_model.specs.declared.program.Loc.{Loc}
 use Rattle.il_model.specs.declared.program.Side.{Side}
 use Rattle.il_model.specs.declared.program.Side.TheVariants as sides
-use Rattle.il_model.specs.Words.{is_reserved}
+use Rattle.il_model.specs.Words.{is_reserved, split_last}
 use Rattle.il_reader.specs.Tokens.{Token}
 use Rattle.il_reader.specs.Grammar.{BlockText, is_retained, OperandText, Constant, Direct, Named, Field, BehindText, Nothing, Given, Target, Opened, Called, ArgumentText, written_arguments, OperationText, LineText, Labelled, Plain, NamesText, Located, More, DeclarationText, ProgramText, ends_names, ends_block, ends_blocks, ends_lines, ends_named, ends_arguments, is_line_stop}
 use Rattle.il_reader.specs.Spelling.{spelled_qualifier, Part, breaks, ahead, Says, spelled_operand, spelled_inner_operand, spelled_side, spelled_argument, spelled_next, spelled_inside, spelled_arguments, spelled_behind, spelled_operation, spelled_optional_operation, spelled_line, spelled_name, spelled_names, spelled_initial, spelled_declaration, spelled_block, spelled_program, spelled_by, going, listed}
@@ -19,8 +19,8 @@ use Rattle.il_declarations.specs.declared.fault.DeclKind.TheVariants as kinds
 use Rattle.il_declarations.specs.declared.fault.FaultAt.{FaultAt}
 use Rattle.il_declarations.specs.FirstFault.{kind_number, IsNoLater}
 use Rattle.il_declarations.specs.Resolution.{capitals, suits, written_value}
-use Rattle.il_declarations.specs.Declaring.{DeclaredName, BlockDeclaration, in_block, declarations_in, named_in, other_names, names_in, names_of, type_in, written_location, is_declared, names_variable, names_instance, arguments_behind}
-use Rattle.il_declarations.specs.TextFaults.{has_no_room, is_overlapping}
+use Rattle.il_declarations.specs.Declaring.{DeclaredName, BlockDeclaration, in_block, declarations_in, named_in, other_names, names_in, names_of, type_in, written_location, is_declared, names_variable, names_instance, arguments_behind, is_shadowed}
+use Rattle.il_declarations.specs.TextFaults.{has_no_room, is_overlapping, names_field}
 use Rattle.il_declarations.proofs.Agreeing.{beside_append}
 use Rattle.il_declarations.proofs.FaultList.{when, beside, name_faults, place_faults, location_faults, start_faults, declaration_faults, operand_faults, behind_faults, operation_faults, line_faults, faults_of, Among}
 use Rattle.il_declarations.proofs.Falling.{Falls, split, at_most, text_falls, operator_at}
@@ -99,7 +99,7 @@ name_ordered dialect n before x lt =
     let left = x.name.left in
     let many = has_no_room dialect (type_in dialect x.by) before in
     let reserved = is_reserved (capitals x.name.text) in
-    more_faults n left (is_declared before (capitals x.name.text)) kinds.Duplicate (when reserved kinds.ReservedName left ++ when many kinds.TooMany left) lt
+    more_faults n left (is_declared before (capitals x.name.text) || is_shadowed dialect before x) kinds.Duplicate (when reserved kinds.ReservedName left ++ when many kinds.TooMany left) lt
     (more_faults n left reserved kinds.ReservedName (when many kinds.TooMany left) lt (one_fault n left many kinds.TooMany lt) (here _ many kinds.TooMany left (refl, omega arith)))
     (all_both _ (when reserved kinds.ReservedName left) (when many kinds.TooMany left) (here _ reserved kinds.ReservedName left (refl, omega arith)) (here _ many kinds.TooMany left (refl, omega arith)))
 
@@ -193,7 +193,7 @@ blocks_ordered dialect before (b ∷ bs) n m falls =
 operand_ordered : (dialect : Dialect) → (names : List DeclaredName) (x : OperandText) (n m : ℕ) → Falls n (spelled_operand x) m → Ordered n (operand_faults dialect names x) m
 operand_ordered dialect names (Constant t) n m falls = wider n t.left m _ (one_fault n t.left (is_none (literal_in dialect t.text)) kinds.UnknownName falls.0) falls.1
 operand_ordered dialect names (Direct t) n m falls = wider n t.left m _ (one_fault n t.left (is_none (location_in dialect t.text)) kinds.BadLocation falls.0) falls.1
-operand_ordered dialect names (Named t) n m falls = wider n t.left m _ (one_fault n t.left (not (names_variable dialect names (capitals t.text))) kinds.UnknownName falls.0) falls.1
+operand_ordered dialect names (Named t) n m falls = wider n t.left m _ (one_fault n t.left (not (names_variable dialect names (capitals t.text) || names_field dialect names (split_last (capitals t.text)))) kinds.UnknownName falls.0) falls.1
 operand_ordered dialect names (Field t f) n m falls =
     let below = falls.1.0 in
     let low = falls.1.1 in

@@ -1,6 +1,7 @@
 -- What a text declares: the names of its declarations in the order of the text, and the program of which they are the
 -- variables and the instances, with an instruction for each line.
 use Rattle.std.specs.Prelude.{◌≡◌, ℕ, List, [], ◌∷◌, map, Option, Some, None, Bool, true, false, not, ◌&&◌}
+use Rattle.std.specs.Prelude.{if◌then◌else◌}
 use Rattle.std.specs.List.{flat_map, filter_map, list_any, AllZip}
 use Rattle.std.specs.Option.{option_map}
 use Rattle.il_model.specs.declared.dialect.Dialect.{Dialect}
@@ -18,7 +19,7 @@ use Rattle.il_model.specs.declared.program.Instance.{Instance}
 use Rattle.il_model.specs.declared.program.Argument.{Argument}
 use Rattle.il_model.specs.declared.program.Instr.{Instr}
 use Rattle.il_model.specs.Program.{Program}
-use Rattle.il_model.specs.Words.{same_name}
+use Rattle.il_model.specs.Words.{same_name, split_last, stands_under}
 use Rattle.il_model.specs.Values.{zero_of}
 use Rattle.il_model.specs.Codes.{has_code}
 use Rattle.il_model.specs.Locations.{seen_as}
@@ -128,6 +129,13 @@ names_variable dialect names name = list_any (λ x. is_variable dialect x && is_
 abbrev pub names_instance : Dialect → List DeclaredName → List ℕ → Bool
 names_instance dialect names name = list_any (λ x. is_instance dialect x && is_called name x) names
 
+-- a variable and an instance under whose name it stands: a field of the one couldn't be told from the other
+abbrev pub is_shadowed : Dialect → List DeclaredName → DeclaredName → Bool
+is_shadowed dialect before x = list_any
+    (λ y. if is_instance dialect x
+    then is_variable dialect y && stands_under (capitals x.name.text) (capitals y.name.text)
+    else is_instance dialect y && stands_under (capitals y.name.text) (capitals x.name.text)) before
+
 -- a variable with one of the names lies at the bit or the word of a code
 abbrev pub is_occupied : Dialect → List DeclaredName → ℕ → Bool
 is_occupied dialect names code =
@@ -139,37 +147,49 @@ abbrev pub value_operand : Literal → Operand
 value_operand (Bare z) = operands.Bare z
 value_operand (Typed v) = operands.Literal v
 
--- an operand, its names in capital letters
-abbrev pub operand_in : Dialect → OperandText → Option Operand
-operand_in dialect (Constant t) = option_map value_operand (literal_in dialect t.text)
-operand_in dialect (Direct t) = option_map (λ loc. operands.Direct loc) (location_in dialect t.text)
-operand_in dialect (Named t) = Some (operands.Variable (capitals t.text))
-operand_in dialect (Field t f) = Some (operands.Field (capitals t.text) (capitals f.text))
+-- a name that is no instance's field is a variable's
+abbrev pub field_or : Dialect → List DeclaredName → List ℕ → Option (List ℕ × List ℕ) → Operand
+field_or dialect names name None = operands.Variable name
+field_or dialect names name (Some (x, field)) =
+    if names_instance dialect names x then operands.Field x field else operands.Variable name
 
-abbrev pub operand_behind : Dialect → BehindText → Option Operand
-operand_behind dialect Nothing = Some operands.Absent
-operand_behind dialect (Given x) = operand_in dialect x
-operand_behind dialect (Target t) = Some (operands.Label (capitals t.text))
-operand_behind dialect (Opened None) = Some operands.Absent
-operand_behind dialect (Opened (Some x)) = operand_in dialect x
-operand_behind dialect (Called c) = Some (operands.Instance (capitals c.instance.text))
+-- a name: the variable that is called so as a whole, else the field of an instance, behind the last dot
+abbrev pub named_operand : Dialect → List DeclaredName → List ℕ → Operand
+named_operand dialect names name = if names_variable dialect names name then operands.Variable name
+    else field_or dialect names name (split_last name)
+
+-- an operand, its names in capital letters
+abbrev pub operand_in : Dialect → List DeclaredName → OperandText → Option Operand
+operand_in dialect names (Constant t) = option_map value_operand (literal_in dialect t.text)
+operand_in dialect names (Direct t) = option_map (λ loc. operands.Direct loc) (location_in dialect t.text)
+operand_in dialect names (Named t) = Some (named_operand dialect names (capitals t.text))
+operand_in dialect names (Field t f) = Some (operands.Field (capitals t.text) (capitals f.text))
+
+abbrev pub operand_behind : Dialect → List DeclaredName → BehindText → Option Operand
+operand_behind dialect names Nothing = Some operands.Absent
+operand_behind dialect names (Given x) = operand_in dialect names x
+operand_behind dialect names (Target t) = Some (operands.Label (capitals t.text))
+operand_behind dialect names (Opened None) = Some operands.Absent
+operand_behind dialect names (Opened (Some x)) = operand_in dialect names x
+operand_behind dialect names (Called c) = Some (operands.Instance (capitals c.instance.text))
 
 abbrev pub arguments_behind : BehindText → List ArgumentText
 arguments_behind (Called c) = arguments_of c
 arguments_behind b = []
 
 -- the argument that is written
-pub record IsArgumentOf (dialect : Dialect) (a : ArgumentText) (x : Argument) : Type 0 where
+pub record IsArgumentOf (dialect : Dialect) (names : List DeclaredName) (a : ArgumentText) (x : Argument) : Type 0 where
   pub field : x.field ≡ capitals a.field.text
   pub side : x.side ≡ a.side
-  pub operand : operand_in dialect a.operand ≡ Some x.operand
+  pub operand : operand_in dialect names a.operand ≡ Some x.operand
 
 -- the instruction that an operation says
-pub record IsOperationOf (dialect : Dialect) (o : OperationText) (x : Instr) : Type 0 where
-  pub op : x.op ≡ o.operator.mnemonic.op
-  pub modifier : x.modifier ≡ with_opening (opens o.behind) o.operator.mnemonic.modifier
-  pub operand : operand_behind dialect o.behind ≡ Some x.operand
-  pub arguments : AllZip (IsArgumentOf dialect) (arguments_behind o.behind) x.arguments
+pub record IsOperationOf (dialect : Dialect) (names : List DeclaredName) (o : OperationText) (x : Instr) : Type 0
+  where
+    pub op : x.op ≡ o.operator.mnemonic.op
+    pub modifier : x.modifier ≡ with_opening (opens o.behind) o.operator.mnemonic.modifier
+    pub operand : operand_behind dialect names o.behind ≡ Some x.operand
+    pub arguments : AllZip (IsArgumentOf dialect names) (arguments_behind o.behind) x.arguments
 
 -- the instruction of a label alone
 pub record IsEmpty (x : Instr) : Type 0 where
@@ -178,13 +198,13 @@ pub record IsEmpty (x : Instr) : Type 0 where
   pub operand : x.operand ≡ operands.Absent
   pub arguments : x.arguments ≡ []
 
-abbrev pub IsBehindLabel : Dialect → Option OperationText → Instr → Type 0
-IsBehindLabel dialect None x = IsEmpty x
-IsBehindLabel dialect (Some o) x = IsOperationOf dialect o x
+abbrev pub IsBehindLabel : Dialect → List DeclaredName → Option OperationText → Instr → Type 0
+IsBehindLabel dialect names None x = IsEmpty x
+IsBehindLabel dialect names (Some o) x = IsOperationOf dialect names o x
 
-abbrev pub IsInstructionOf : Dialect → LineText → Instr → Type 0
-IsInstructionOf dialect (Labelled t o) x = (x.label ≡ Some (capitals t.text)) × IsBehindLabel dialect o x
-IsInstructionOf dialect (Plain o) x = (x.label ≡ None) × IsOperationOf dialect o x
+abbrev pub IsInstructionOf : Dialect → List DeclaredName → LineText → Instr → Type 0
+IsInstructionOf dialect names (Labelled t o) x = (x.label ≡ Some (capitals t.text)) × IsBehindLabel dialect names o x
+IsInstructionOf dialect names (Plain o) x = (x.label ≡ None) × IsOperationOf dialect names o x
 
 -- ---- the whole
 
@@ -193,4 +213,4 @@ IsInstructionOf dialect (Plain o) x = (x.label ≡ None) × IsOperationOf dialec
 pub record IsProgramOf (dialect : Dialect) (p : ProgramText) (P : Program) : Type 0 where
   pub variables : P.variables ≡ filter_map (variable_of dialect) (names_of p)
   pub instances : P.instances ≡ filter_map (instance_of dialect) (names_of p)
-  pub code : AllZip (IsInstructionOf dialect) p.lines P.code
+  pub code : AllZip (IsInstructionOf dialect (names_of p)) p.lines P.code

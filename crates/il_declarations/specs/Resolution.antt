@@ -33,10 +33,14 @@ use Rattle.il_declarations.specs.declared.fault.DeclError.TheVariants as errors
 abbrev pub capitals : List ℕ → List ℕ
 capitals name = map upper name
 
--- a type that an extended text alone has
+-- the types that an extended text alone has
 abbrev pub new_type : Dialect → List ℕ → Option Ty
 new_type dialects.Plain word = None
-new_type dialects.Extended word = if spells (codes "REAL") word then Some types.Real else None
+new_type dialects.Extended word =
+    if spells (codes "REAL") word then Some types.Real
+    else if spells (codes "WORD") word then Some types.Word
+    else if spells (codes "DWORD") word then Some types.Dword
+    else None
 
 abbrev pub type_of : Dialect → List ℕ → Option Ty
 type_of dialect word =
@@ -59,14 +63,14 @@ type_by (Some type) kind = Some (declared.Elementary type)
 abbrev pub declared_type : Dialect → List ℕ → Option DeclaredType
 declared_type dialect word = type_by (type_of dialect word) (kind_of_name (capitals word))
 
--- a bit is BOOL, a word INT, a double word DINT, TIME or REAL, and no instance has a location; an unknown type is a
--- fault of its own
+-- a bit is BOOL, a word INT or WORD, a double word DINT, TIME, REAL or DWORD, and no instance has a location; an
+-- unknown type is a fault of its own
 abbrev pub suits : Option DeclaredType → Loc → Bool
 suits None loc = true
 suits (Some (declared.Elementary type)) loc = is_type type (loc_type (seen_as type loc))
 suits (Some (declared.Block kind)) loc = false
 
--- the location of a variable of that type: a double word is of the same
+-- the location of a variable of that type: a word or a double word is of the same
 abbrev pub place_as : DeclaredType → Loc → Loc
 place_as (declared.Elementary type) loc = seen_as type loc
 place_as (declared.Block kind) loc = loc

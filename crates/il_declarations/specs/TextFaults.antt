@@ -1,13 +1,13 @@
 -- The faults that a text has, each told of one name, one declaration or one instruction line beside what stands before
 -- it.
 use Rattle.std.specs.Prelude.{◌≡◌, ◌⊎◌, ℕ, List, [], ◌∷◌, ◌++◌, length, map, Option, Some, None, is_none, Bool, true}
-use Rattle.std.specs.Prelude.{false, not, nat_le}
+use Rattle.std.specs.Prelude.{false, not, ◌||◌, nat_le}
 use Rattle.std.specs.List.{flat_map, filter, list_any}
 use Rattle.il_model.specs.declared.dialect.Dialect.{Dialect}
 use Rattle.il_model.specs.Dialects.{literal_in, location_in}
 use Rattle.il_model.specs.declared.limits.TheConstants.{MOST_VARIABLES, MOST_INSTANCES, MOST_INSTRUCTIONS}
 use Rattle.il_model.specs.declared.program.Loc.{Loc}
-use Rattle.il_model.specs.Words.{is_reserved}
+use Rattle.il_model.specs.Words.{is_reserved, split_last}
 use Rattle.il_model.specs.CodedOperands.{loc_code}
 use Rattle.il_model.specs.Locations.{parts_of}
 use Rattle.il_reader.specs.Tokens.{Token}
@@ -22,7 +22,7 @@ use Rattle.il_declarations.specs.declared.fault.FaultAt.{FaultAt}
 use Rattle.il_declarations.specs.Resolution.{capitals, suits, written_value}
 use Rattle.il_declarations.specs.Declaring.{DeclaredName, names_in, declarations_of, names_of, type_in, is_instance}
 use Rattle.il_declarations.specs.Declaring.{is_variable, written_location, is_declared, names_variable, names_instance}
-use Rattle.il_declarations.specs.Declaring.{is_occupied}
+use Rattle.il_declarations.specs.Declaring.{is_occupied, is_shadowed}
 
 -- in a list there is an item for which this holds, with those before it
 pub record Somewhere {X : Type 0} (P : List X → X → Type 0) (xs : List X) : Type 0 where
@@ -79,9 +79,15 @@ abbrev pub asked_kind : Asked → DeclKind
 asked_kind (AsLocation t) = kinds.BadLocation
 asked_kind a = kinds.UnknownName
 
+-- the field of an instance, by what stands before its last dot and behind it; whether the block has it is judged later
+abbrev pub names_field : Dialect → List DeclaredName → Option (List ℕ × List ℕ) → Bool
+names_field dialect names None = false
+names_field dialect names (Some (x, field)) = names_instance dialect names x
+
 -- there is none; a text that was read has no constants but literals
 abbrev pub is_missing : Dialect → List DeclaredName → Asked → Bool
-is_missing dialect names (AsVariable t) = not (names_variable dialect names (capitals t.text))
+is_missing dialect names (AsVariable t) =
+    not (names_variable dialect names (capitals t.text) || names_field dialect names (split_last (capitals t.text)))
 is_missing dialect names (AsInstance t) = not (names_instance dialect names (capitals t.text))
 is_missing dialect names (AsLocation t) = is_none (location_in dialect t.text)
 is_missing dialect names (AsLiteral t) = is_none (literal_in dialect t.text)
@@ -140,8 +146,10 @@ SomeMissing dialect p kind left =
     (asked_in l)) p.lines
 
 abbrev pub HasFaultOf : Dialect → ProgramText → DeclKind → ℕ → Type 0
--- A name stands that one before it is too, whatever its case, be it of a variable or of an instance.
-HasFaultOf dialect p kinds.Duplicate left = SomeName p left (λ before x. is_declared before (capitals x.name.text))
+-- A name stands that one before it is too, whatever its case, be it of a variable or of an instance; or a variable's
+-- under an instance's.
+HasFaultOf dialect p kinds.Duplicate left =
+    SomeName p left (λ before x. is_declared before (capitals x.name.text) || is_shadowed dialect before x)
 -- A type word is neither a type nor the kind of a function block.
 HasFaultOf dialect p kinds.UnknownType left =
     Somewhere (λ before d. (left ≡ d.text.ty.left) × (is_none (type_in dialect d.text) ≡ true)) (declarations_of p)

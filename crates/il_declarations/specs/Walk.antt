@@ -23,9 +23,10 @@ use Rattle.il_model.specs.declared.program.Argument.{Argument}
 use Rattle.il_model.specs.declared.program.Instr.{Instr}
 use Rattle.il_model.specs.Program.{Program, Declarations}
 use Rattle.il_model.specs.Resolved.{instance_in}
-use Rattle.il_model.specs.Words.{is_reserved}
+use Rattle.std.specs.List.{list_any}
+use Rattle.il_model.specs.Words.{is_reserved, split_last, stands_under}
 use Rattle.il_model.specs.Values.{zero_of}
-use Rattle.il_model.specs.Codes.{is_number, is_overlapped}
+use Rattle.il_model.specs.Codes.{is_number, has_under, is_overlapped}
 use Rattle.il_reader.specs.Tokens.{Token}
 use Rattle.il_reader.specs.Grammar.{OperandText, Constant, Direct, Named, Field, BehindText, Nothing, Given, Target}
 use Rattle.il_reader.specs.Grammar.{Opened, Called, ArgumentText, arguments_of, OperationText, LineText, Labelled}
@@ -86,10 +87,16 @@ is_full None known = false
 is_full (Some (declared.Elementary type)) known = nat_le MOST_VARIABLES (length known.variables)
 is_full (Some (declared.Block kind)) known = nat_le MOST_INSTANCES (length known.instances)
 
--- a name in capital letters, which no variable and no instance before it has
+-- a variable and an instance under whose name it stands
+abbrev pub is_shadowed : Option DeclaredType → Declarations → List ℕ → Bool
+is_shadowed (Some (declared.Block kind)) known name = has_under known.variables name
+is_shadowed type known name = list_any (λ (x : Instance). stands_under x.name name) known.instances
+
+-- a name in capital letters, which no variable and no instance before it has, nor a variable under an instance
 unfoldable pub new_name : Option DeclaredType → Declarations → Token → Result (List ℕ) FaultAt
 new_name type known t =
-    if has_name known (capitals t.text) || has_instance known (capitals t.text) then refused kinds.Duplicate t
+    if has_name known (capitals t.text) || has_instance known (capitals t.text)
+    || is_shadowed type known (capitals t.text) then refused kinds.Duplicate t
     else if is_reserved (capitals t.text) then refused kinds.ReservedName t
     else if is_full type known then refused kinds.TooMany t
     else Ok (capitals t.text)
@@ -203,11 +210,17 @@ constant t None = refused kinds.UnknownName t
 constant t (Some (Bare z)) = Ok (operands.Bare z)
 constant t (Some (Typed v)) = Ok (operands.Literal v)
 
+-- the field of an instance, by what stands before its last dot and behind it
+abbrev pub field_named : Declarations → Token → Option (List ℕ × List ℕ) → Result Operand FaultAt
+field_named known t None = refused kinds.UnknownName t
+field_named known t (Some (x, field)) =
+    if has_instance known x then Ok (operands.Field x field) else refused kinds.UnknownName t
+
 abbrev pub operand_of : Dialect → Declarations → OperandText → Result Operand FaultAt
 operand_of dialect known (Constant t) = constant t (literal_in dialect t.text)
 operand_of dialect known (Direct t) = direct t (location_in dialect t.text)
 operand_of dialect known (Named t) = if has_name known (capitals t.text) then Ok (operands.Variable (capitals t.text))
-    else refused kinds.UnknownName t
+    else field_named known t (split_last (capitals t.text))
 operand_of dialect known (Field t f) = if has_instance known (capitals t.text)
     then Ok (operands.Field (capitals t.text) (capitals f.text)) else refused kinds.UnknownName t
 

@@ -3,7 +3,7 @@
 ghost use Rattle.std.specs.Prelude.{◌≡◌, OnOk};
 ghost use Rattle.il_declarations.specs.DeclaredTables.{AddsName};
 
-use il_model::{Instance, Loc, Name, Variable, is_overlapping, put_code};
+use il_model::{Instance, Loc, Name, Variable, is_overlapping, put_code, stands_under};
 use std::alloc::{AllocError, Global};
 use std::collections::BTreeSet;
 use std::marker::Model;
@@ -43,7 +43,9 @@ fn put_name(alloc: Global, names: &mut BTreeSet<Vec<u8>>, name: &Name) -> Result
 
 impl Declared {
     ghost use Rattle.std.specs.Prelude.{length, IfOk, OnErr};
-    ghost use Rattle.il_model.specs.Codes.{is_overlapped};
+    ghost use Rattle.std.specs.List.{list_any};
+    ghost use Rattle.il_model.specs.Words.{stands_under};
+    ghost use Rattle.il_model.specs.Codes.{has_under, is_overlapped};
     ghost use Rattle.il_declarations.specs.Walk.{nothing, has_name, has_instance, with_variable, with_instance};
 
     /// Nothing.
@@ -85,6 +87,24 @@ impl Declared {
         ensures { result ≡ has_instance self.now name.now }
     {
         self.instance_names.contains(name.bytes())
+    }
+
+    /// Whether a variable stands under the name.
+    pub fn has_under(&self, name: &Name) -> bool
+        ensures { result ≡ has_under self.now.variables name.now }
+    {
+        self.variables
+            .iter()
+            .any(|v| stands_under(name.bytes(), v.name.bytes()))
+    }
+
+    /// Whether the name stands under that of an instance.
+    pub fn is_under(&self, name: &Name) -> bool
+        ensures { result ≡ list_any (λ x. stands_under x.name name.now) self.now.instances }
+    {
+        self.instances
+            .iter()
+            .any(|x| stands_under(x.name.bytes(), name.bytes()))
     }
 
     /// Whether a variable lies at a part of the location.

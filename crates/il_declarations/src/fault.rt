@@ -10,13 +10,13 @@ use thiserror::Error;
 /// What is wrong at a place of a text.
 #[derive(Clone, Copy, Debug, PartialEq, Eq, Error)]
 pub enum DeclKind {
-    /// A name that was declared before.
+    /// A name that was declared before; or a variable's under an instance's, as `T.Q` beside an instance `T`.
     #[error("duplicate name")]
     Duplicate,
     /// A type that is neither an elementary one nor the kind of a function block.
     #[error("unknown type")]
     UnknownType,
-    /// An operand that is no declared variable, or the name of an instance that is none.
+    /// An operand that is no declared variable and no field of an instance, or the name of an instance that is none.
     #[error("unknown name")]
     UnknownName,
     /// A direct address that is no location, or a location that a declaration cannot have.

@@ -1,11 +1,13 @@
 //! Instructions: labels, operators with their letters, operands by name, location, value or field, arguments of calls.
 
-ghost use Rattle.std.specs.Prelude.{◌≡◌, [], map, option_map};
+ghost use Rattle.std.specs.Prelude.{◌≡◌, [], map, option_map, Some};
 ghost use Rattle.il_reader.specs.Tokens.{token};
 ghost use Rattle.il_reader.specs.Grammar.{Named, Field, Called, operand, argument, call, behind, operation, line};
+ghost use Rattle.il_model.specs.Words.{split_last};
 ghost use Rattle.il_declarations.specs.Resolution.{opens, with_opening};
-ghost use Rattle.il_declarations.specs.Walk.{Gives, constant, operand_of, optional_operand_of, behind_of, argument_of};
-ghost use Rattle.il_declarations.specs.Walk.{pushed_argument, behind_arguments, instruction_of, room, label_of};
+ghost use Rattle.il_declarations.specs.Walk.{Gives, constant, operand_of, field_named, optional_operand_of, behind_of};
+ghost use Rattle.il_declarations.specs.Walk.{argument_of, pushed_argument, behind_arguments, instruction_of, room};
+ghost use Rattle.il_declarations.specs.Walk.{label_of};
 ghost use Rattle.il_declarations.specs.Walk.{instruct_labelled, instruct_plain, instruct, each};
 
 use crate::declared::Declared;
@@ -13,7 +15,7 @@ use crate::fault::{DeclKind, Failure, FaultAt};
 use crate::variables::{capital_name, refused};
 use il_model::{
     Argument, Arguments, Dialect, Instr, Literal, MOST_INSTRUCTIONS, Modifier, Name, Op, Operand,
-    is_reserved,
+    is_reserved, split_last,
 };
 use il_reader::{Behind, Call, Lexeme, Line, Operation};
 use std::alloc::Global;
@@ -24,6 +26,34 @@ fn constant(t: Lexeme, given: Option<Literal>) -> Result<Operand, Failure>
     match given {
         Some(Literal::Bare(z)) => Ok(Operand::Bare(z)),
         Some(Literal::Typed(v)) => Ok(Operand::Literal(v)),
+        None => Err(refused(DeclKind::UnknownName, t)),
+    }
+}
+
+/// The field of an instance, by the names of both.
+fn field_under(
+    alloc: Global,
+    known: &Declared,
+    t: Lexeme,
+    instance: &[u8],
+    field: &[u8],
+) -> Result<Operand, Failure>
+    ensures { Gives (λ x. x) result (field_named known.now (token t.entry) (Some (instance.now, field.now))) }
+{
+    let name = Name::of(Vec::from_slice(alloc, instance)?);
+    if known.is_instance(&name) {
+        Ok(Operand::Field(name, Name::of(Vec::from_slice(alloc, field)?)))
+    } else {
+        Err(refused(DeclKind::UnknownName, t))
+    }
+}
+
+/// The field of an instance, by its name with dots: the field stands behind the last one.
+fn dotted_field(alloc: Global, known: &Declared, name: &Name, t: Lexeme) -> Result<Operand, Failure>
+    ensures { Gives (λ x. x) result (field_named known.now (token t.entry) (split_last name.now)) }
+{
+    match split_last(name.bytes()) {
+        Some((instance, field)) => field_under(alloc, known, t, instance, field),
         None => Err(refused(DeclKind::UnknownName, t)),
     }
 }
@@ -40,7 +70,7 @@ fn variable(
     if known.is_variable(&name) {
         Ok(Operand::Variable(name))
     } else {
-        Err(refused(DeclKind::UnknownName, t))
+        dotted_field(alloc, known, &name, t)
     }
 }
 

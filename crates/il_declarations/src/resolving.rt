@@ -59,9 +59,9 @@ fn walked(alloc: Global, source: &Source) -> Result<Program, DeclError>
 
 /// The program of a text that was read: its variables and its function block instances in the order of their
 /// declarations, the variables with their first values, and its instructions, one for a label alone too, all names in
-/// capital letters. Numbers without a type stay bare; labels of jumps and fields of instances are not looked up. Else
-/// the first fault in the text with its line and column; of two at one place the one with the least number. Or memory
-/// ran out.
+/// capital letters. Numbers without a type stay bare; labels of jumps and fields of instances are not looked up. A name
+/// with dots that no variable has is the field behind its last dot. Else the first fault in the text with its line and
+/// column; of two at one place the one with the least number. Or memory ran out.
 pub fn resolve(alloc: Global, source: Source<'_>) -> Result<Program, DeclError>
     // Each part of the program has a lawful form: names are lawful and distinct; locations are there, and no two share
     // a bit or a word; values are in their ranges; an operator has letters and an operand that it takes; an operand, of

@@ -1,11 +1,13 @@
 //! Declarations of variables and function block instances.
 
 ghost use Rattle.std.specs.Prelude.{◌≡◌, IfOk, OnOk, map};
+ghost use Rattle.il_model.specs.declared.dialect.Dialect.TheVariants as dialects;
 ghost use Rattle.il_reader.specs.Tokens.{token};
 ghost use Rattle.il_reader.specs.Grammar.{declaration, block_text};
 ghost use Rattle.il_declarations.specs.Resolution.{capitals, new_type, type_of, declared_type, suits, place_as};
 ghost use Rattle.il_declarations.specs.Resolution.{variable};
-ghost use Rattle.il_declarations.specs.Walk.{Gives, is_full, new_name, free_location, found_type, plan_of, with_declared};
+ghost use Rattle.il_declarations.specs.Walk.{Gives, is_full, is_shadowed, new_name, free_location, found_type, plan_of};
+ghost use Rattle.il_declarations.specs.Walk.{with_declared};
 ghost use Rattle.il_declarations.specs.Walk.{declare_name, declare_located, declare_listed, declare, declare_block, each};
 ghost use Rattle.il_declarations.specs.Declaring.{in_block};
 
@@ -52,13 +54,28 @@ pub fn capital_name(alloc: Global, text: &[u8]) -> Result<Name, AllocError>
     Ok(Name::of(bytes))
 }
 
-/// A type that an extended text alone has.
+/// The type that a word stands for, of those that an extended text alone has.
+fn extended_type(word: &[u8]) -> Option<Ty>
+    ensures { result ≡ new_type dialects.Extended word.now }
+{
+    if is_spelled(b"REAL", word) {
+        Some(Ty::Real)
+    } else if is_spelled(b"WORD", word) {
+        Some(Ty::Word)
+    } else if is_spelled(b"DWORD", word) {
+        Some(Ty::Dword)
+    } else {
+        None
+    }
+}
+
+/// The same in a text of a dialect; a plain one has none of them.
 fn new_type(dialect: Dialect, word: &[u8]) -> Option<Ty>
     ensures { result ≡ new_type dialect word.now }
 {
     match dialect {
         Dialect::Plain => None,
-        Dialect::Extended => is_spelled(b"REAL", word).then_some(Ty::Real),
+        Dialect::Extended => extended_type(word),
     }
 }
 
@@ -105,6 +122,16 @@ fn has_no_room(ty: Option<DeclaredType>, known: &Declared) -> bool
     }
 }
 
+/// Whether it would be a variable and an instance under whose name that one stands.
+fn is_shadowed(ty: Option<DeclaredType>, known: &Declared, name: &Name) -> bool
+    ensures { result ≡ is_shadowed ty known.now name.now }
+{
+    match ty {
+        Some(DeclaredType::Block(_)) => known.has_under(name),
+        _ => known.is_under(name),
+    }
+}
+
 #[tactic(auto, unfolding(crate::specs::Walk::new_name))]
 fn lawful_name(
     alloc: Global,
@@ -115,7 +142,7 @@ fn lawful_name(
     ensures { Gives (λ n. n) result (new_name ty known.now (token t.entry)) }
 {
     let name = capital_name(alloc, t.text)?;
-    if known.is_variable(&name) || known.is_instance(&name) {
+    if known.is_variable(&name) || known.is_instance(&name) || is_shadowed(ty, known, &name) {
         Err(refused(DeclKind::Duplicate, t))
     } else if is_reserved(name.bytes()) {
         Err(refused(DeclKind::ReservedName, t))

@@ -3,4 +3,3 @@ pub mod Numbers
 pub mod Parts
 pub mod Sections
 pub mod Rows
-pub mod Versions

@@ -1,6 +1,6 @@
 -- The listing of a program: its one text, all in capital letters but ms. Each line ends with LF.
 use Rattle.std.specs.Prelude.{ℕ, suc, ◌+◌, ◌==◌, map, ◌/◌, ◌%◌, ℤ, pos, negsuc, Bool, true, false, List, [], ◌∷◌, ◌++◌}
-use Rattle.std.specs.Prelude.{Option, Some, None, if◌then◌else◌, codes, ◌||◌}
+use Rattle.std.specs.Prelude.{Option, Some, None, if◌then◌else◌, codes, ◌||◌, length, nat_lt}
 use Rattle.std.specs.List.{flat_map}
 use Rattle.std.specs.Int.Digits.{digits_of}
 use Rattle.il_real.specs.Texts.{real_text}
@@ -10,13 +10,15 @@ use Rattle.il_model.specs.declared.value.Value.{Value}
 use Rattle.il_model.specs.declared.value.Value.TheVariants as values
 use Rattle.il_model.specs.declared.function.Function.{Function}
 use Rattle.il_model.specs.declared.function.Function.TheVariants as functions
+use Rattle.il_model.specs.declared.shift.Shift.{Shift}
+use Rattle.il_model.specs.declared.shift.Shift.TheVariants as shifts
 use Rattle.il_model.specs.declared.op.Op.{Op}
 use Rattle.il_model.specs.declared.op.Op.TheVariants as ops
 use Rattle.il_model.specs.declared.op.Modifier.{Modifier}
 use Rattle.il_model.specs.declared.program.Area.{Area}
 use Rattle.il_model.specs.declared.program.Area.TheVariants as areas
 use Rattle.il_model.specs.declared.program.Loc.{Loc}
-use Rattle.il_model.specs.declared.program.Loc.TheVariants.{Bit, Word, Double}
+use Rattle.il_model.specs.declared.program.Loc.TheVariants.{Bit, Word, Pattern, Double}
 use Rattle.il_model.specs.declared.program.Variable.{Variable}
 use Rattle.il_model.specs.declared.program.Instance.{Instance}
 use Rattle.il_model.specs.declared.program.Operand.{Operand}
@@ -28,6 +30,8 @@ use Rattle.il_model.specs.declared.program.Instr.{Instr}
 use Rattle.il_model.specs.Values.{number_of}
 use Rattle.il_model.specs.Operators.{is_zero}
 use Rattle.il_model.specs.Words.{spells}
+use Rattle.il_model.specs.declared.limits.TheConstants.{LONGEST_DOTTED_NAME}
+use Rattle.il_model.specs.BitStrings.{hex_word, hex_double}
 use Rattle.il_model.specs.Kinds.{kind_name}
 use Rattle.il_model.specs.Codes.{is_empty}
 use Rattle.il_model.specs.Program.{Program}
@@ -56,6 +60,8 @@ literal_text (values.Dint z) = codes "DINT#" ++ number_text z
 literal_text (values.Lint z) = codes "LINT#" ++ number_text z
 literal_text (values.Time z) = codes "T#" ++ (number_text z ++ codes "ms")
 literal_text (values.Real r) = codes "REAL#" ++ real_text r
+literal_text (values.Word n) = codes "WORD#16#" ++ hex_word n
+literal_text (values.Dword n) = codes "DWORD#16#" ++ hex_double n
 
 abbrev pub area_letter : Area → List ℕ
 area_letter areas.Input = codes "I"
@@ -67,6 +73,7 @@ abbrev pub location_text : Loc → List ℕ
 location_text (Bit area n) = codes "%"
     ++ (area_letter area ++ (codes "X" ++ (decimal (n / 8) ++ (codes "." ++ decimal (n % 8)))))
 location_text (Word area n) = codes "%" ++ (area_letter area ++ (codes "W" ++ decimal n))
+location_text (Pattern area n) = codes "%" ++ (area_letter area ++ (codes "W" ++ decimal n))
 location_text (Double area n t) = codes "%" ++ (area_letter area ++ (codes "D" ++ decimal n))
 
 -- ---- declarations
@@ -78,6 +85,8 @@ type_name types.Dint = codes "DINT"
 type_name types.Time = codes "TIME"
 type_name types.Lint = codes "LINT"
 type_name types.Real = codes "REAL"
+type_name types.Word = codes "WORD"
+type_name types.Dword = codes "DWORD"
 
 abbrev pub at_text : Option Loc → List ℕ
 at_text None = []
@@ -113,6 +122,18 @@ function_name functions.Sqrt = codes "SQRT"
 function_name functions.TimeToDint = codes "TIME_TO_DINT"
 function_name functions.DintToTime = codes "DINT_TO_TIME"
 function_name functions.Move = codes "MOVE"
+function_name functions.WordToInt = codes "WORD_TO_INT"
+function_name functions.IntToWord = codes "INT_TO_WORD"
+function_name functions.DwordToDint = codes "DWORD_TO_DINT"
+function_name functions.DintToDword = codes "DINT_TO_DWORD"
+function_name functions.WordToDword = codes "WORD_TO_DWORD"
+function_name functions.DwordToWord = codes "DWORD_TO_WORD"
+
+abbrev pub shift_name : Shift → List ℕ
+shift_name shifts.Left = codes "SHL"
+shift_name shifts.Right = codes "SHR"
+shift_name shifts.RotateLeft = codes "ROL"
+shift_name shifts.RotateRight = codes "ROR"
 
 abbrev pub op_name : Op → List ℕ
 op_name ops.Empty = []
@@ -145,6 +166,7 @@ op_name ops.IntToDint = codes "INT_TO_DINT"
 op_name ops.DintToInt = codes "DINT_TO_INT"
 op_name ops.DintToLint = codes "DINT_TO_LINT"
 op_name ops.LintToDint = codes "LINT_TO_DINT"
+op_name (ops.Shift s) = shift_name s
 op_name (ops.Apply f) = function_name f
 
 abbrev pub letter : Bool → List ℕ → List ℕ
@@ -155,6 +177,11 @@ abbrev pub operator_text : Op → Modifier → List ℕ
 operator_text op m = op_name op
     ++ (letter m.conditional (codes "C") ++ (letter m.negated (codes "N") ++ letter m.opens (codes "(")))
 
+-- between an instance and its field: a dot, behind a blank where the three have more bytes than a name may have
+abbrev pub dot_text : List ℕ → List ℕ → List ℕ
+dot_text name field =
+    if nat_lt LONGEST_DOTTED_NAME (length name + 1 + length field) then codes " ." else codes "."
+
 -- a bare number stands in no typed program
 abbrev pub operand_text : Operand → List ℕ
 operand_text operands.Absent = []
@@ -163,7 +190,7 @@ operand_text (operands.Bare z) = number_text z
 operand_text (operands.Variable name) = name
 operand_text (operands.Direct loc) = location_text loc
 operand_text (operands.Label name) = name
-operand_text (operands.Field name field) = name ++ (codes "." ++ field)
+operand_text (operands.Field name field) = name ++ (dot_text name field ++ field)
 operand_text (operands.Instance name) = name
 
 -- behind an operator, with a space
@@ -200,14 +227,14 @@ line_text line = label_text line.op line.label ++ (operation_text line ++ codes 
 -- ---- sections of declarations: one for each run of those that are retained, or aren't
 
 -- a name that would be taken for a qualifier behind VAR_GLOBAL
-abbrev pub is_qualifier : List ℕ → Bool
-is_qualifier name = spells (codes "RETAIN") name || spells (codes "NON_RETAIN") name
+abbrev pub reads_as_qualifier : List ℕ → Bool
+reads_as_qualifier name = spells (codes "RETAIN") name || spells (codes "NON_RETAIN") name
 
 -- before a declaration with this name, which is retained or isn't; only where else its name would be taken for a
 -- qualifier is NON_RETAIN listed
 abbrev pub qualifier_text : Bool → List ℕ → List ℕ
 qualifier_text true name = codes " RETAIN"
-qualifier_text false name = if is_qualifier name then codes " NON_RETAIN" else []
+qualifier_text false name = if reads_as_qualifier name then codes " NON_RETAIN" else []
 
 abbrev pub section_text : Bool → List ℕ → List ℕ
 section_text retained name = codes "VAR_GLOBAL" ++ (qualifier_text retained name ++ codes "\n")

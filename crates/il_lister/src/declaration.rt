@@ -1,7 +1,7 @@
 //! Declarations, written.
 
 ghost use Rattle.std.specs.Prelude.{◌≡◌};
-ghost use Rattle.il_lister.specs.Listing.{at_text, initial_text, variable_text, instance_text, is_qualifier};
+ghost use Rattle.il_lister.specs.Listing.{at_text, initial_text, variable_text, instance_text, reads_as_qualifier};
 ghost use Rattle.il_lister.specs.Listing.{qualifier_text, section_text, turn_text, variables_text, instances_text};
 ghost use Rattle.il_lister.specs.Listing.{last_retained};
 ghost use Rattle.il_lister.specs.Writing.{Writes};
@@ -56,8 +56,8 @@ fn write_instance<W: CountedWrite>(writer: &mut W, instance: &Instance) -> Resul
 }
 
 /// Whether a name would be taken for a qualifier behind VAR_GLOBAL.
-fn is_qualifier(name: &[u8]) -> bool
-    ensures { result ≡ is_qualifier name.now }
+fn reads_as_qualifier(name: &[u8]) -> bool
+    ensures { result ≡ reads_as_qualifier name.now }
 {
     is_spelled(b"RETAIN", name) || is_spelled(b"NON_RETAIN", name)
 }
@@ -68,7 +68,7 @@ fn qualifier(retained: bool, name: &[u8]) -> &'static [u8]
 {
     if retained {
         b" RETAIN"
-    } else if is_qualifier(name) {
+    } else if reads_as_qualifier(name) {
         b" NON_RETAIN"
     } else {
         b""

@@ -12,7 +12,7 @@ use crate::fault::ListFault;
 use crate::instruction::write_lines;
 use crate::writing::write_text;
 use il_loader::Image;
-use il_model::{Instance, Variable};
+use il_model::{Instance, Variable, Version};
 use io_model::CountedWrite;
 
 /// Whether the first declaration is retained.
@@ -41,13 +41,10 @@ fn first_name<'a>(variables: &'a [Variable], instances: &'a [Instance]) -> &'a [
     }
 }
 
-/// Whether the image is of the third version.
-#[tactic(auto, using(crate::proofs::Versions::long_enough, crate::proofs::Versions::third_is))]
-fn is_third(image: &Image) -> bool
-    ensures { result ≡ is_third (version_of image.now) }
+fn is_third(version: Version) -> bool
+    ensures { result ≡ is_third version }
 {
-    let bytes = image.bytes();
-    bytes[5] == 3
+    matches!(version, Version::Three)
 }
 
 /// What stands before the declarations, of which the first is retained or isn't, and has this name: VAR, or a section's
@@ -60,7 +57,7 @@ fn write_opening<W: CountedWrite>(
 ) -> Result<(), ListFault>
     ensures { Writes W.CountedWrite (opening (version_of image.now) retained name.now) writer.old writer.new result }
 {
-    if is_third(image) {
+    if is_third(image.version()) {
         write_section(writer, retained, name)
     } else {
         write_text(writer, b"VAR\n")
@@ -82,8 +79,8 @@ fn write_listing<W: CountedWrite>(writer: &mut W, image: &Image) -> Result<(), L
 
 /// Writes the listing of an image: its program in Instruction List (IEC 61131-3:2003, 3.2), in capital letters but for
 /// the unit ms, each line ended by LF; it's an extended text where the image is of the third version, with a section
-/// for each run of declarations that are retained. It answers Device only where the writer failed in this call; then a
-/// prefix of the listing went out.
+/// for each run of declarations that are all retained, or all aren't. It answers Device only where the writer failed in
+/// this call; then a prefix of the listing went out.
 pub fn list<W: CountedWrite>(image: &Image, writer: &mut W) -> Result<(), ListFault>
     ensures ok { OnOk result (Appends (W.held writer.old) (W.held writer.new) (listing image.now)) }
     ensures err { OnErr result

@@ -1,15 +1,38 @@
 //! Operands and arguments, written.
 
+ghost use Rattle.std.specs.Prelude.{◌≡◌, ◌++◌};
 ghost use Rattle.std.specs.List.{flat_map};
-ghost use Rattle.il_lister.specs.Listing.{operand_text, behind_text, argument_text, next_argument_text, arguments_text};
+ghost use Rattle.il_lister.specs.Listing.{dot_text, operand_text, behind_text, argument_text, next_argument_text};
+ghost use Rattle.il_lister.specs.Listing.{arguments_text};
 ghost use Rattle.il_lister.specs.Writing.{Writes};
 
 use crate::fault::ListFault;
 use crate::literal::{write_literal, write_location};
 use crate::words::write_side;
 use crate::writing::{write_name, write_number, write_text};
-use il_model::{Argument, Operand};
+use il_model::{Argument, LONGEST_DOTTED_NAME, Name, Operand};
 use io_model::CountedWrite;
+
+/// The dot between an instance and its field, behind a blank where the three have more bytes than a name may have.
+fn dot_between(name: &Name, field: &Name) -> &'static [u8]
+    ensures { result.now ≡ dot_text name.now field.now }
+{
+    if name.bytes().len() + 1 + field.bytes().len() > LONGEST_DOTTED_NAME {
+        b" ."
+    } else {
+        b"."
+    }
+}
+
+/// A field behind its instance.
+fn write_field<W: CountedWrite>(writer: &mut W, name: &Name, field: &Name) -> Result<(), ListFault>
+    ensures { Writes W.CountedWrite (name.now ++ (dot_text name.now field.now ++ field.now)) writer.old
+        writer.new result }
+{
+    write_name(writer, name)?;
+    write_text(writer, dot_between(name, field))?;
+    write_name(writer, field)
+}
 
 fn write_operand<W: CountedWrite>(writer: &mut W, operand: &Operand) -> Result<(), ListFault>
     ensures { Writes W.CountedWrite (operand_text operand.now) writer.old writer.new result }
@@ -21,11 +44,7 @@ fn write_operand<W: CountedWrite>(writer: &mut W, operand: &Operand) -> Result<(
         Operand::Variable(name) => write_name(writer, name),
         Operand::Direct(location) => write_location(writer, *location),
         Operand::Label(name) => write_name(writer, name),
-        Operand::Field(name, field) => {
-            write_name(writer, name)?;
-            write_text(writer, b".")?;
-            write_name(writer, field)
-        }
+        Operand::Field(name, field) => write_field(writer, name, field),
         Operand::Instance(name) => write_name(writer, name),
     }
 }

@@ -3,13 +3,14 @@
 ghost use Rattle.std.specs.Prelude.{◌≡◌, codes, if◌then◌else◌};
 ghost use Rattle.il_model.specs.Kinds.{kind_name};
 ghost use Rattle.il_model.specs.Codes.{is_empty};
-ghost use Rattle.il_lister.specs.Listing.{truth_text, area_letter, type_name, function_name, op_name, side_text};
+ghost use Rattle.il_lister.specs.Listing.{truth_text, area_letter, type_name, function_name, shift_name};
+ghost use Rattle.il_lister.specs.Listing.{op_name, side_text};
 ghost use Rattle.il_lister.specs.Listing.{letter};
 ghost use Rattle.il_lister.specs.Writing.{Writes};
 
 use crate::fault::ListFault;
 use crate::writing::write_text;
-use il_model::{Area, BlockKind, Function, Op, Side, Ty};
+use il_model::{Area, BlockKind, Function, Op, Shift, Side, Ty};
 use io_model::CountedWrite;
 
 /// TRUE or FALSE.
@@ -41,6 +42,8 @@ pub fn write_type<W: CountedWrite>(writer: &mut W, ty: Ty) -> Result<(), ListFau
         Ty::Time => write_text(writer, b"TIME"),
         Ty::Lint => write_text(writer, b"LINT"),
         Ty::Real => write_text(writer, b"REAL"),
+        Ty::Word => write_text(writer, b"WORD"),
+        Ty::Dword => write_text(writer, b"DWORD"),
     }
 }
 
@@ -69,6 +72,23 @@ fn function_name(function: Function) -> &'static [u8]
         Function::TimeToDint => b"TIME_TO_DINT",
         Function::DintToTime => b"DINT_TO_TIME",
         Function::Move => b"MOVE",
+        Function::WordToInt => b"WORD_TO_INT",
+        Function::IntToWord => b"INT_TO_WORD",
+        Function::DwordToDint => b"DWORD_TO_DINT",
+        Function::DintToDword => b"DINT_TO_DWORD",
+        Function::WordToDword => b"WORD_TO_DWORD",
+        Function::DwordToWord => b"DWORD_TO_WORD",
+    }
+}
+
+fn shift_name(shift: Shift) -> &'static [u8]
+    ensures { result.now ≡ shift_name shift }
+{
+    match shift {
+        Shift::Left => b"SHL",
+        Shift::Right => b"SHR",
+        Shift::RotateLeft => b"ROL",
+        Shift::RotateRight => b"ROR",
     }
 }
 
@@ -106,6 +126,7 @@ fn op_name(op: Op) -> &'static [u8]
         Op::DintToInt => b"DINT_TO_INT",
         Op::DintToLint => b"DINT_TO_LINT",
         Op::LintToDint => b"LINT_TO_DINT",
+        Op::Shift(shift) => shift_name(shift),
         Op::Apply(function) => function_name(function),
     }
 }

@@ -22,7 +22,7 @@ use Rattle.il_reader.specs.Tokens.{Token, goes_on, tokens_of}
 use Rattle.il_reader.specs.Front.{is_class_of, is_end_class, no_token, is_sign, is_end, is_word_token, first, others, fault_at, skip_breaks}
 use Rattle.il_reader.specs.Reading.{◌>>=◌, Reading, expect, keyword, pair, led, closed, choice, mapped, past, mark, stand, many, meant}
 use Rattle.il_reader.specs.Grammar.{is_no_qualifier, no_qualifier, BlockText, block_word, begins_block, is_variable, is_constant, before_dot, Direct, Constant, OperandText, ArgumentText, ends_arguments, before_close, BehindText, Given, Target, Opened, Called, OperationText, form_of, operator_of, is_line_stop, operator_from, LineText, Plain, is_label, Located, More, DeclarationText, ends_names, ends_block, ends_blocks, ProgramText, ends_lines, ends_named, begins_program}
-use Rattle.il_reader.specs.Walk.{this_qualifier, either_qualifier_at, qualifier_at, blocked, variable_at, constant_at, named, field_at, inner_field_at, lone_at, operand_at, inner_operand_at, side_at, an_output, an_input, an_argument, argument_at, next_argument_at, together, inside_at, arguments_at, a_call, call_at, operator_at, optional_operand_at, nested_at, either_at, behind_at, operation_at, optional_operation_at, labelled, labelled_at, plain_at, either_line_at, line_at, name_at, names_at, initial_at, declared, declaration_at, block_at, end_at, finish_at, named_program, bare_program, named_at, bare_at, program_at}
+use Rattle.il_reader.specs.Walk.{this_qualifier, either_qualifier_at, qualifier_at, declared_at, blocked, variable_at, constant_at, named, field_at, inner_field_at, lone_at, operand_at, inner_operand_at, side_at, an_output, an_input, an_argument, argument_at, next_argument_at, together, inside_at, arguments_at, a_call, call_at, operator_at, optional_operand_at, nested_at, either_at, behind_at, operation_at, optional_operation_at, labelled, labelled_at, plain_at, either_line_at, line_at, name_at, names_at, initial_at, declared, declaration_at, block_at, end_at, finish_at, named_program, bare_program, named_at, bare_at, program_at}
 use Rattle.il_reader.specs.FirstFault.{StandsAt}
 use Rattle.il_reader.proofs.Programs.{next_shrinks, line_shrinks, name_shrinks, declaration_shrinks, block_shrinks, program_law}
 use Rattle.il_reader.proofs.Written.{retain_makes, retain_written, non_retain_written, sign_goes, written, Written, token_of, a_dot, dot_makes, dot_written, comma_written, a_close, close_makes, close_written, an_open, open_makes, open_written, a_colon, colon_makes, colon_written, semicolon_written, an_assign, assign_makes, assign_written, arrow_written, an_address, address_makes, address_written, a_break, break_makes, a_name, name_makes, name_written, variable_written, a_truth, truth_makes, truth_written, an_at, at_makes, at_written, an_end_var, end_var_makes, end_var_written, var_written, program_written, an_end_program, end_program_makes, end_program_written, end_makes}
@@ -30,50 +30,50 @@ use Rattle.il_reader.proofs.Checks.{GoesOn, Check, good, bad, leaving, followed,
 
 -- tokens
 
-expect_exact : (dialect : Dialect) → (j : Sign) → Written dialect (is_sign j) → (n : ℕ) (k : Check) → Exact dialect n k → Exact dialect (suc n) (followed (expect j) k)
+pub expect_exact : (dialect : Dialect) → (j : Sign) → Written dialect (is_sign j) → (n : ℕ) (k : Check) → Exact dialect n k → Exact dialect (suc n) (followed (expect j) k)
 unfolding expect
 expect_exact dialect j w n k e = taken_exact dialect (is_sign j) (λ t. t) w refl n k e
 
-past_expect_exact : (dialect : Dialect) → (j : Sign) → Written dialect (is_sign j) → (n : ℕ) (k : Check) → Exact dialect n k → Exact dialect (suc n) (followed (past (expect j)) k)
+pub past_expect_exact : (dialect : Dialect) → (j : Sign) → Written dialect (is_sign j) → (n : ℕ) (k : Check) → Exact dialect n k → Exact dialect (suc n) (followed (past (expect j)) k)
 unfolding expect
 past_expect_exact dialect j w n k e = past_taken_exact dialect (is_sign j) (λ t. t) w refl n k e
 
-sign_exact : (dialect : Dialect) → (j : Sign) → Written dialect (is_sign j) → (n : ℕ) (k : Check) → Exact dialect n k → Exact dialect (suc n) (followed (mark (expect j)) k)
+pub sign_exact : (dialect : Dialect) → (j : Sign) → Written dialect (is_sign j) → (n : ℕ) (k : Check) → Exact dialect n k → Exact dialect (suc n) (followed (mark (expect j)) k)
 sign_exact dialect j w n k e = mark_exact dialect (expect j) (suc n) k (expect_exact dialect j w n k e)
 
-past_sign_exact : (dialect : Dialect) → (j : Sign) → Written dialect (is_sign j) → (n : ℕ) (k : Check) → Exact dialect n k → Exact dialect (suc n) (followed (past (mark (expect j))) k)
+pub past_sign_exact : (dialect : Dialect) → (j : Sign) → Written dialect (is_sign j) → (n : ℕ) (k : Check) → Exact dialect n k → Exact dialect (suc n) (followed (past (mark (expect j))) k)
 past_sign_exact dialect j w n k e = same_exact dialect (followed (past (mark (expect j))) k) (followed (past (expect j)) k) (suc n) (λ ts. mark_same (expect j) k (skip_breaks ts)) (past_expect_exact dialect j w n k e)
 
-keyword_exact : (dialect : Dialect) → (w : List ℕ) → Written dialect (is_word_token w) → (n : ℕ) (k : Check) → Exact dialect n k → Exact dialect (suc n) (followed (keyword w) k)
+pub keyword_exact : (dialect : Dialect) → (w : List ℕ) → Written dialect (is_word_token w) → (n : ℕ) (k : Check) → Exact dialect n k → Exact dialect (suc n) (followed (keyword w) k)
 unfolding keyword
 keyword_exact dialect w made n k e = taken_exact dialect (is_word_token w) (λ t. tt) made refl n k e
 
-past_keyword_exact : (dialect : Dialect) → (w : List ℕ) → Written dialect (is_word_token w) → (n : ℕ) (k : Check) → Exact dialect n k → Exact dialect (suc n) (followed (past (keyword w)) k)
+pub past_keyword_exact : (dialect : Dialect) → (w : List ℕ) → Written dialect (is_word_token w) → (n : ℕ) (k : Check) → Exact dialect n k → Exact dialect (suc n) (followed (past (keyword w)) k)
 unfolding keyword
 past_keyword_exact dialect w made n k e = past_taken_exact dialect (is_word_token w) (λ t. tt) made refl n k e
 
 -- what reads past line ends does not see them
-past_blind : {X : Type 0} (a : Reading X) (k : Check) → Blind (followed (past a) k)
+pub past_blind : {X : Type 0} (a : Reading X) (k : Check) → Blind (followed (past a) k)
 past_blind a k ts = ap (followed a k) (sym (skips_once ts))
 
 -- operands
 
-variable_exact : (dialect : Dialect) → (n : ℕ) (k : Check) → Exact dialect n k → Exact dialect (suc n) (followed variable_at k)
+pub variable_exact : (dialect : Dialect) → (n : ℕ) (k : Check) → Exact dialect n k → Exact dialect (suc n) (followed variable_at k)
 unfolding variable_at spells
 variable_exact dialect n k e = taken_exact dialect is_variable (λ t. t) (variable_written dialect) refl n k e
 
-constant_exact : (dialect : Dialect) → (n : ℕ) (k : Check) → Exact dialect n k → Exact dialect (suc n) (followed constant_at k)
+pub constant_exact : (dialect : Dialect) → (n : ℕ) (k : Check) → Exact dialect n k → Exact dialect (suc n) (followed constant_at k)
 unfolding constant_at is_constant
 constant_exact dialect n k e = taken_exact dialect is_constant (λ t. t) (truth_written dialect) refl n k e
 
-past_constant_exact : (dialect : Dialect) → (n : ℕ) (k : Check) → Exact dialect n k → Exact dialect (suc n) (followed (past constant_at) k)
+pub past_constant_exact : (dialect : Dialect) → (n : ℕ) (k : Check) → Exact dialect n k → Exact dialect (suc n) (followed (past constant_at) k)
 unfolding constant_at is_constant
 past_constant_exact dialect n k e = past_taken_exact dialect is_constant (λ t. t) (truth_written dialect) refl n k e
 
-abbrev dotted : Reading Token
+abbrev pub dotted : Reading Token
 dotted = led (mark (expect signs.Dot)) (expect signs.Name)
 
-field_exact : (dialect : Dialect) → (n : ℕ) (k : Check) → Exact dialect n k → Exact dialect n (followed field_at k)
+pub field_exact : (dialect : Dialect) → (n : ℕ) (k : Check) → Exact dialect n k → Exact dialect n (followed field_at k)
 unfolding field_at expect
 field_exact dialect n k e = option_exact dialect (is_sign signs.Dot) (mapped Some dotted) None n k e.placed
     (fewer dialect (followed (mapped Some dotted) k) n (fewer dialect (followed (mapped Some dotted) k) (suc n) on)).placed
@@ -82,14 +82,14 @@ field_exact dialect n k e = option_exact dialect (is_sign signs.Dot) (mapped Som
     on : Exact dialect (suc (suc n)) (followed (mapped Some dotted) k)
     on = mapped_exact dialect Some dotted _ k (led_exact dialect (mark (expect signs.Dot)) (expect signs.Name) _ k (sign_exact dialect signs.Dot (dot_written dialect) _ _ (expect_exact dialect signs.Name (name_written dialect) n k e)))
 
-abbrev past_dotted : Reading Token
+abbrev pub past_dotted : Reading Token
 past_dotted = led (past (mark (expect signs.Dot))) (past (expect signs.Name))
 
 -- the same, where the dot stands next
-abbrev solid_dotted : Reading Token
+abbrev pub solid_dotted : Reading Token
 solid_dotted = led (mark (expect signs.Dot)) (past (expect signs.Name))
 
-inner_field_exact : (dialect : Dialect) → (n : ℕ) (k : Check) → Exact dialect n k → Blind k → Exact dialect n (followed inner_field_at k)
+pub inner_field_exact : (dialect : Dialect) → (n : ℕ) (k : Check) → Exact dialect n k → Blind k → Exact dialect n (followed inner_field_at k)
 unfolding inner_field_at expect skip_breaks
 inner_field_exact dialect n k e blind = same_exact dialect (followed inner_field_at k) (behind_breaks body) n same
     (past_exact dialect body n below (a_dot (a_name e.some.0)) (rw (dot_makes dialect (a_name e.some.0)) refl) (rw (dot_makes dialect (a_name e.some.0), name_makes dialect e.some.0) e.some.1))
@@ -108,7 +108,7 @@ inner_field_exact dialect n k e blind = same_exact dialect (followed inner_field
     same : (ts : List Token) → followed inner_field_at k ts ≡ behind_breaks body ts
     same ts = option_same before_dot (mapped Some past_dotted) None k ts ∙ rw (blind ts) refl
 
-lone_exact : (dialect : Dialect) → (n : ℕ) (k : Check) → Exact dialect n k → Exact dialect (suc n) (followed lone_at k)
+pub lone_exact : (dialect : Dialect) → (n : ℕ) (k : Check) → Exact dialect n k → Exact dialect (suc n) (followed lone_at k)
 unfolding lone_at expect
 lone_exact dialect n k e = either_exact dialect (is_sign signs.Address) (mapped Direct (expect signs.Address)) (mapped Constant constant_at) (suc n) k
     (mapped_exact dialect Direct (expect signs.Address) _ k (expect_exact dialect signs.Address (address_written dialect) n k e)).placed
@@ -116,71 +116,71 @@ lone_exact dialect n k e = either_exact dialect (is_sign signs.Address) (mapped 
     (an_address e.some.0) (rw (address_makes dialect e.some.0) e.some.1)
 
 -- an operand whose field is read so
-by_field_exact : (dialect : Dialect) → (a : Reading (Option Token)) (n : ℕ) (k : Check) → Exact dialect n k → Exact dialect n (followed a k) → Exact dialect (suc n) (followed (choice (next is_variable) (mapped named (pair variable_at a)) lone_at) k)
+pub by_field_exact : (dialect : Dialect) → (a : Reading (Option Token)) (n : ℕ) (k : Check) → Exact dialect n k → Exact dialect n (followed a k) → Exact dialect (suc n) (followed (choice (next is_variable) (mapped named (pair variable_at a)) lone_at) k)
 unfolding lone_at expect
 by_field_exact dialect a n k e f = either_exact dialect is_variable (mapped named (pair variable_at a)) lone_at (suc n) k
     (mapped_exact dialect named (pair variable_at a) _ k (pair_exact dialect variable_at a _ k (variable_exact dialect n _ f))).placed
     (lone_exact dialect n k e).placed
     (an_address e.some.0) (rw (address_makes dialect e.some.0) e.some.1)
 
-operand_exact : (dialect : Dialect) → (n : ℕ) (k : Check) → Exact dialect n k → Exact dialect (suc n) (followed operand_at k)
+pub operand_exact : (dialect : Dialect) → (n : ℕ) (k : Check) → Exact dialect n k → Exact dialect (suc n) (followed operand_at k)
 unfolding operand_at
 operand_exact dialect n k e = by_field_exact dialect field_at n k e (field_exact dialect n k e)
 
-inner_operand_exact : (dialect : Dialect) → (n : ℕ) (k : Check) → Exact dialect n k → Blind k → Exact dialect (suc n) (followed inner_operand_at k)
+pub inner_operand_exact : (dialect : Dialect) → (n : ℕ) (k : Check) → Exact dialect n k → Blind k → Exact dialect (suc n) (followed inner_operand_at k)
 unfolding inner_operand_at
 inner_operand_exact dialect n k e blind = by_field_exact dialect inner_field_at n k e (inner_field_exact dialect n k e blind)
 
 -- calls
 
-side_exact : (dialect : Dialect) → (n : ℕ) (k : Check) → Exact dialect n k → Exact dialect (suc n) (followed side_at k)
+pub side_exact : (dialect : Dialect) → (n : ℕ) (k : Check) → Exact dialect n k → Exact dialect (suc n) (followed side_at k)
 unfolding side_at expect
 side_exact dialect n k e = either_exact dialect (is_sign signs.Arrow) (mapped an_output (mark (expect signs.Arrow))) (mapped an_input (mark (expect signs.Assign))) (suc n) k
     (mapped_exact dialect an_output (mark (expect signs.Arrow)) _ k (sign_exact dialect signs.Arrow (arrow_written dialect) n k e)).placed
     (mapped_exact dialect an_input (mark (expect signs.Assign)) _ k (sign_exact dialect signs.Assign (assign_written dialect) n k e)).placed
     (an_assign e.some.0) (rw (assign_makes dialect e.some.0) e.some.1)
 
-past_side_exact : (dialect : Dialect) → (n : ℕ) (k : Check) → Exact dialect n k → Exact dialect (suc n) (followed (past side_at) k)
+pub past_side_exact : (dialect : Dialect) → (n : ℕ) (k : Check) → Exact dialect n k → Exact dialect (suc n) (followed (past side_at) k)
 unfolding side_at expect
 past_side_exact dialect n k e = past_exact dialect (followed side_at k) (suc n) (side_exact dialect n k e).placed (an_assign e.some.0) (rw (assign_makes dialect e.some.0) refl) (rw (assign_makes dialect e.some.0) e.some.1)
 
-past_inner_operand_exact : (dialect : Dialect) → (n : ℕ) (k : Check) → Exact dialect n k → Blind k → Exact dialect (suc n) (followed (past inner_operand_at) k)
+pub past_inner_operand_exact : (dialect : Dialect) → (n : ℕ) (k : Check) → Exact dialect n k → Blind k → Exact dialect (suc n) (followed (past inner_operand_at) k)
 unfolding inner_operand_at lone_at expect
 past_inner_operand_exact dialect n k e blind = past_exact dialect (followed inner_operand_at k) (suc n) (inner_operand_exact dialect n k e blind).placed (an_address e.some.0) (rw (address_makes dialect e.some.0) refl) (rw (address_makes dialect e.some.0) e.some.1)
 
-abbrev sided : Reading (Side × OperandText)
+abbrev pub sided : Reading (Side × OperandText)
 sided = pair (past side_at) (past inner_operand_at)
 
-abbrev solid_argument : Reading ArgumentText
+abbrev pub solid_argument : Reading ArgumentText
 solid_argument = mapped an_argument (pair (expect signs.Name) sided)
 
-sided_exact : (dialect : Dialect) → (n : ℕ) (k : Check) → Exact dialect n k → Blind k → Exact dialect (suc (suc n)) (followed sided k)
+pub sided_exact : (dialect : Dialect) → (n : ℕ) (k : Check) → Exact dialect n k → Blind k → Exact dialect (suc (suc n)) (followed sided k)
 sided_exact dialect n k e blind = pair_exact dialect (past side_at) (past inner_operand_at) _ k (past_side_exact dialect _ _ (past_inner_operand_exact dialect n k e blind))
 
-solid_argument_exact : (dialect : Dialect) → (n : ℕ) (k : Check) → Exact dialect n k → Blind k → Exact dialect (suc (suc (suc n))) (followed solid_argument k)
+pub solid_argument_exact : (dialect : Dialect) → (n : ℕ) (k : Check) → Exact dialect n k → Blind k → Exact dialect (suc (suc (suc n))) (followed solid_argument k)
 solid_argument_exact dialect n k e blind = mapped_exact dialect an_argument (pair (expect signs.Name) sided) _ k (pair_exact dialect (expect signs.Name) sided _ k (expect_exact dialect signs.Name (name_written dialect) _ _ (sided_exact dialect n k e blind)))
 
-argument_exact : (dialect : Dialect) → (n : ℕ) (k : Check) → Exact dialect n k → Blind k → Exact dialect (suc (suc (suc n))) (followed argument_at k)
+pub argument_exact : (dialect : Dialect) → (n : ℕ) (k : Check) → Exact dialect n k → Blind k → Exact dialect (suc (suc (suc n))) (followed argument_at k)
 unfolding argument_at
 argument_exact dialect n k e blind = mapped_exact dialect an_argument (pair (past (expect signs.Name)) sided) _ k (pair_exact dialect (past (expect signs.Name)) sided _ k (past_expect_exact dialect signs.Name (name_written dialect) _ _ (sided_exact dialect n k e blind)))
 
-abbrev solid_next_argument : Reading ArgumentText
+abbrev pub solid_next_argument : Reading ArgumentText
 solid_next_argument = led (mark (expect signs.Comma)) argument_at
 
-solid_next_exact : (dialect : Dialect) → (n : ℕ) (k : Check) → Exact dialect n k → Blind k → Exact dialect (suc (suc (suc (suc n)))) (followed solid_next_argument k)
+pub solid_next_exact : (dialect : Dialect) → (n : ℕ) (k : Check) → Exact dialect n k → Blind k → Exact dialect (suc (suc (suc (suc n)))) (followed solid_next_argument k)
 solid_next_exact dialect n k e blind = led_exact dialect (mark (expect signs.Comma)) argument_at _ k (sign_exact dialect signs.Comma (comma_written dialect) _ _ (argument_exact dialect n k e blind))
 
-abbrev no_comma : Token → Bool
+abbrev pub no_comma : Token → Bool
 no_comma t = not (is_sign signs.Comma t)
 
-arguments_listed : Listed no_comma ends_arguments solid_next_argument next_argument_at
+pub arguments_listed : Listed no_comma ends_arguments solid_next_argument next_argument_at
 unfolding ends_arguments next_argument_at
 arguments_listed = record { stop = λ ts. refl; past = λ ts. refl; less = next_shrinks }
 
-abbrev closing_check : Check → Check
+abbrev pub closing_check : Check → Check
 closing_check k = followed (past (mark (expect signs.Close))) k
 
-more_exact : (dialect : Dialect) → (n : ℕ) (k : Check) → Exact dialect n k → Exact dialect (suc n) (followed (many ends_arguments next_argument_at) (closing_check k))
+pub more_exact : (dialect : Dialect) → (n : ℕ) (k : Check) → Exact dialect n k → Exact dialect (suc n) (followed (many ends_arguments next_argument_at) (closing_check k))
 unfolding expect skip_breaks
 more_exact dialect n k e = list_exact dialect no_comma ends_arguments solid_next_argument next_argument_at (suc n) (closing_check k) arguments_listed blind
     (record { text = a_close e.some.0; stop = rw (close_makes dialect e.some.0) refl; solid = rw (close_makes dialect e.some.0) refl; reads = rw (close_makes dialect e.some.0) e.some.1 })
@@ -198,10 +198,10 @@ more_exact dialect n k e = list_exact dialect no_comma ends_arguments solid_next
         let seen : Blind more = list_blind no_comma ends_arguments solid_next_argument next_argument_at (closing_check k) arguments_listed blind in
         fewer_below dialect (followed solid_next_argument more) (suc p) (suc (suc (suc (suc p)))) (omega arith) (solid_next_exact dialect p more m seen).placed
 
-abbrev solid_list : Reading (List ArgumentText)
+abbrev pub solid_list : Reading (List ArgumentText)
 solid_list = mapped together (pair solid_argument (many ends_arguments next_argument_at))
 
-inside_exact : (dialect : Dialect) → (n : ℕ) (k : Check) → Exact dialect n k → Exact dialect (suc n) (followed inside_at (closing_check k))
+pub inside_exact : (dialect : Dialect) → (n : ℕ) (k : Check) → Exact dialect n k → Exact dialect (suc n) (followed inside_at (closing_check k))
 unfolding inside_at argument_at expect skip_breaks
 inside_exact dialect n k e = same_exact dialect (followed inside_at c) (behind_breaks body) (suc n) same
     (past_exact dialect body (suc n) below (a_close e.some.0) (rw (close_makes dialect e.some.0) refl) (rw (close_makes dialect e.some.0) e.some.1))
@@ -230,7 +230,7 @@ inside_exact dialect n k e = same_exact dialect (followed inside_at c) (behind_b
 abbrev in_parentheses : Reading (List ArgumentText)
 in_parentheses = led (mark (expect signs.Open)) (closed inside_at (past (mark (expect signs.Close))))
 
-arguments_exact : (dialect : Dialect) → (n : ℕ) (k : Check) → Exact dialect n k → Exact dialect n (followed arguments_at k)
+pub arguments_exact : (dialect : Dialect) → (n : ℕ) (k : Check) → Exact dialect n k → Exact dialect n (followed arguments_at k)
 unfolding arguments_at inside_at expect skip_breaks
 arguments_exact dialect n k e = option_exact dialect (is_sign signs.Open) (mapped Some in_parentheses) None n k e.placed
     (fewer_below dialect (followed (mapped Some in_parentheses) k) n (suc (suc n)) (omega arith) on.placed)
@@ -239,48 +239,48 @@ arguments_exact dialect n k e = option_exact dialect (is_sign signs.Open) (mappe
     on : Exact dialect (suc (suc n)) (followed (mapped Some in_parentheses) k)
     on = mapped_exact dialect Some in_parentheses _ k (led_exact dialect (mark (expect signs.Open)) (closed inside_at (past (mark (expect signs.Close)))) _ k (sign_exact dialect signs.Open (open_written dialect) _ _ (closed_exact dialect inside_at (past (mark (expect signs.Close))) _ k (inside_exact dialect n k e))))
 
-call_exact : (dialect : Dialect) → (n : ℕ) (k : Check) → Exact dialect n k → Exact dialect (suc n) (followed call_at k)
+pub call_exact : (dialect : Dialect) → (n : ℕ) (k : Check) → Exact dialect n k → Exact dialect (suc n) (followed call_at k)
 unfolding call_at
 call_exact dialect n k e = mapped_exact dialect a_call (pair (expect signs.Name) arguments_at) _ k (pair_exact dialect (expect signs.Name) arguments_at _ k (expect_exact dialect signs.Name (name_written dialect) n _ (arguments_exact dialect n k e)))
 
 -- operations
 
-abbrev stops_line : Token → Bool
+abbrev pub stops_line : Token → Bool
 stops_line t = is_sign signs.Break t || is_end t
 
-some_operand_exact : (dialect : Dialect) → (n : ℕ) (k : Check) → Exact dialect n k → Exact dialect (suc n) (followed (mapped Some operand_at) k)
+pub some_operand_exact : (dialect : Dialect) → (n : ℕ) (k : Check) → Exact dialect n k → Exact dialect (suc n) (followed (mapped Some operand_at) k)
 some_operand_exact dialect n k e = mapped_exact dialect Some operand_at _ k (operand_exact dialect n k e)
 
-optional_operand_exact : (dialect : Dialect) → (n : ℕ) (k : Check) → Exact dialect n k → Exact dialect n (followed optional_operand_at k)
+pub optional_operand_exact : (dialect : Dialect) → (n : ℕ) (k : Check) → Exact dialect n k → Exact dialect n (followed optional_operand_at k)
 unfolding optional_operand_at operand_at lone_at expect
 optional_operand_exact dialect n k e = stop_exact dialect stops_line None (mapped Some operand_at) n k e.placed
     (fewer dialect (followed (mapped Some operand_at) k) n (some_operand_exact dialect n k e)).placed
     (an_address e.some.0) (rw (address_makes dialect e.some.0) e.some.1)
 
-nested_exact : (dialect : Dialect) → (n : ℕ) (k : Check) → Exact dialect n k → Exact dialect (suc n) (followed nested_at k)
+pub nested_exact : (dialect : Dialect) → (n : ℕ) (k : Check) → Exact dialect n k → Exact dialect (suc n) (followed nested_at k)
 unfolding nested_at
 nested_exact dialect n k e = led_exact dialect (mark (expect signs.Open)) optional_operand_at _ k (sign_exact dialect signs.Open (open_written dialect) _ _ (optional_operand_exact dialect n k e))
 
-given_exact : (dialect : Dialect) → (n : ℕ) (k : Check) → Exact dialect n k → Exact dialect (suc n) (followed (mapped Given operand_at) k)
+pub given_exact : (dialect : Dialect) → (n : ℕ) (k : Check) → Exact dialect n k → Exact dialect (suc n) (followed (mapped Given operand_at) k)
 given_exact dialect n k e = mapped_exact dialect Given operand_at _ k (operand_exact dialect n k e)
 
-opened_exact : (dialect : Dialect) → (n : ℕ) (k : Check) → Exact dialect n k → Exact dialect (suc n) (followed (mapped Opened nested_at) k)
+pub opened_exact : (dialect : Dialect) → (n : ℕ) (k : Check) → Exact dialect n k → Exact dialect (suc n) (followed (mapped Opened nested_at) k)
 opened_exact dialect n k e = mapped_exact dialect Opened nested_at _ k (nested_exact dialect n k e)
 
 -- something that is read of it, and begins with no colon
-record Plainly (dialect : Dialect) (m : Check) : Type 0 where
-  text : List ℕ
-  no_colon : is_sign signs.Colon (first (tokens_of dialect text)) ≡ false
-  reads : m (tokens_of dialect text) ≡ good
+pub record Plainly (dialect : Dialect) (m : Check) : Type 0 where
+  pub text : List ℕ
+  pub no_colon : is_sign signs.Colon (first (tokens_of dialect text)) ≡ false
+  pub reads : m (tokens_of dialect text) ≡ good
 
-either_behind_exact : (dialect : Dialect) → (n : ℕ) (k : Check) → Exact dialect n k → Exact dialect (suc n) (followed either_at k)
+pub either_behind_exact : (dialect : Dialect) → (n : ℕ) (k : Check) → Exact dialect n k → Exact dialect (suc n) (followed either_at k)
 unfolding either_at operand_at lone_at expect
 either_behind_exact dialect n k e = either_exact dialect (is_sign signs.Open) (mapped Opened nested_at) (mapped Given operand_at) (suc n) k
     (opened_exact dialect n k e).placed
     (given_exact dialect n k e).placed
     (an_address e.some.0) (rw (address_makes dialect e.some.0) e.some.1)
 
-behind_exact : (dialect : Dialect) → (form : Form) (n : ℕ) (k : Check) → Exact dialect n k → Exact dialect n (followed (behind_at form) k)
+pub behind_exact : (dialect : Dialect) → (form : Form) (n : ℕ) (k : Check) → Exact dialect n k → Exact dialect n (followed (behind_at form) k)
 unfolding behind_at
 behind_exact dialect forms.Operand n k e = fewer dialect (followed (mapped Given operand_at) k) n (given_exact dialect n k e)
 behind_exact dialect forms.Nothing n k e = e
@@ -288,7 +288,7 @@ behind_exact dialect forms.Label n k e = fewer dialect (followed (mapped Target 
 behind_exact dialect forms.Either n k e = fewer dialect (followed either_at k) n (either_behind_exact dialect n k e)
 behind_exact dialect forms.Call n k e = fewer dialect (followed (mapped Called call_at) k) n (mapped_exact dialect Called call_at _ k (call_exact dialect n k e))
 
-behind_plainly : (dialect : Dialect) → (form : Form) (k : Check) → Plainly dialect k → Plainly dialect (followed (behind_at form) k)
+pub behind_plainly : (dialect : Dialect) → (form : Form) (k : Check) → Plainly dialect k → Plainly dialect (followed (behind_at form) k)
 unfolding behind_at either_at operand_at lone_at expect call_at arguments_at inside_at skip_breaks
 behind_plainly dialect forms.Operand k p = record { text = an_address p.text; no_colon = rw (address_makes dialect p.text) refl; reads = rw (address_makes dialect p.text) p.reads }
 behind_plainly dialect forms.Nothing k p = p
@@ -300,11 +300,11 @@ abbrev made : Operator → BehindText → OperationText
 made x b = record { operator = x; behind = b }
 
 -- what is checked behind the operator that stands next
-abbrev by_operator : Check → Option Operator → Check
+abbrev pub by_operator : Check → Option Operator → Check
 by_operator k None ts = bad (fault_at (first ts))
 by_operator k (Some o) ts = followed (behind_at (form_of o.mnemonic.op)) k (others ts)
 
-operation_same : (dialect : Dialect) → (k : Check) (ts : List Token) → followed (operation_at dialect) k ts ≡ by_operator k (operator_of dialect (first ts)) ts
+pub operation_same : (dialect : Dialect) → (k : Check) (ts : List Token) → followed (operation_at dialect) k ts ≡ by_operator k (operator_of dialect (first ts)) ts
 unfolding operation_at operator_at
 operation_same dialect k ts = by_case (operator_of dialect (first ts))
   where
@@ -315,10 +315,10 @@ operation_same dialect k ts = by_case (operator_of dialect (first ts))
 abbrev some_operator : Operator → Option Operator
 some_operator o = Some o
 
-no_operator : (o : Operator) → None ≡ some_operator o → ⊥
+pub no_operator : (o : Operator) → None ≡ some_operator o → ⊥
 no_operator o e = absurd cc
 
-operator_goes : (dialect : Dialect) → (t : Token) (o : Operator) → operator_of dialect t ≡ Some o → goes_on t.class ≡ true
+pub operator_goes : (dialect : Dialect) → (t : Token) (o : Operator) → operator_of dialect t ≡ Some o → goes_on t.class ≡ true
 unfolding operator_of
 operator_goes dialect t o e = by_class t.class refl
   where
@@ -327,7 +327,7 @@ operator_goes dialect t o e = by_class t.class refl
     by_class (classes.Broken f) is = let none : operator_of dialect t ≡ None = rw is refl in absurd (no_operator o (sym none ∙ e))
     by_class (classes.Sign s) is = rw is refl
 
-operation_exact : (dialect : Dialect) → (n : ℕ) (k : Check) → Exact dialect n k → Exact dialect (suc n) (followed (operation_at dialect) k)
+pub operation_exact : (dialect : Dialect) → (n : ℕ) (k : Check) → Exact dialect n k → Exact dialect (suc n) (followed (operation_at dialect) k)
 unfolding operator_of behind_at
 operation_exact dialect n k e = same_exact dialect (followed (operation_at dialect) k) m (suc n) (operation_same dialect k) (record { placed = placed; some = some })
   where
@@ -347,7 +347,7 @@ operation_exact dialect n k e = same_exact dialect (followed (operation_at diale
     placed [] f lt h = here dialect m [] f h some (λ us. refl)
     placed (t ∷ ts) f lt h = by_case t ts f (omega (arith, lt)) (operator_of dialect t) refl h
 
-optional_operation_exact : (dialect : Dialect) → (n : ℕ) (k : Check) → Exact dialect n k → Exact dialect n (followed (optional_operation_at dialect) k)
+pub optional_operation_exact : (dialect : Dialect) → (n : ℕ) (k : Check) → Exact dialect n k → Exact dialect n (followed (optional_operation_at dialect) k)
 unfolding optional_operation_at operation_at operator_at operator_of behind_at
 optional_operation_exact dialect n k e = stop_exact dialect stops_line None (mapped Some (operation_at dialect)) n k e.placed
     (fewer dialect (followed (mapped Some (operation_at dialect)) k) n (mapped_exact dialect Some (operation_at dialect) _ k (operation_exact dialect n k e))).placed
@@ -390,13 +390,13 @@ no_name dialect t u none e = by_name (is_sign signs.Name t) refl
     by_name true is = absurd (by_word (operator_in dialect t.text) (rw is at none) (rw is at e))
 
 -- what a line may go on with: where it ends
-record LineEnd (dialect : Dialect) (k : Check) : Type 0 where
-  text : List ℕ
-  stop : stops_line (first (tokens_of dialect text)) ≡ true
-  no_colon : is_sign signs.Colon (first (tokens_of dialect text)) ≡ false
-  reads : k (tokens_of dialect text) ≡ good
+pub record LineEnd (dialect : Dialect) (k : Check) : Type 0 where
+  pub text : List ℕ
+  pub stop : stops_line (first (tokens_of dialect text)) ≡ true
+  pub no_colon : is_sign signs.Colon (first (tokens_of dialect text)) ≡ false
+  pub reads : k (tokens_of dialect text) ≡ good
 
-plain_end : (dialect : Dialect) → (k : Check) → LineEnd dialect k → Plainly dialect k
+pub plain_end : (dialect : Dialect) → (k : Check) → LineEnd dialect k → Plainly dialect k
 plain_end dialect k s = record { text = s.text; no_colon = s.no_colon; reads = s.reads }
 
 abbrev behind_label : (dialect : Dialect) → Check → Check
@@ -413,7 +413,7 @@ content_same dialect m ts =
     ∙ ap (λ (z : Result (Unit {0}) FaultAt). cond (is_label dialect ts) z (followed (plain_at dialect) m ts)) (mapped_same labelled (pair (expect signs.Name) (led (mark (expect signs.Colon)) (optional_operation_at dialect))) m ts ∙ pair_same (expect signs.Name) (led (mark (expect signs.Colon)) (optional_operation_at dialect)) m ts)
     ∙ ap (λ (z : Result (Unit {0}) FaultAt). cond (is_label dialect ts) (followed (expect signs.Name) (behind_label dialect m) ts) z) (mapped_same Plain (operation_at dialect) m ts ∙ operation_same dialect m ts)
 
-content_exact : (dialect : Dialect) → (n : ℕ) (m : Check) → Exact dialect n m → LineEnd dialect m → Exact dialect (suc n) (followed (either_line_at dialect) m)
+pub content_exact : (dialect : Dialect) → (n : ℕ) (m : Check) → Exact dialect n m → LineEnd dialect m → Exact dialect (suc n) (followed (either_line_at dialect) m)
 unfolding is_label operator_of behind_at expect optional_operation_at
 content_exact dialect n m e s = same_exact dialect (followed (either_line_at dialect) m) body (suc n) (content_same dialect m) (record { placed = placed; some = some })
   where
@@ -458,10 +458,10 @@ content_exact dialect n m e s = same_exact dialect (followed (either_line_at dia
     placed [] f lt h = here dialect body [] f h some (λ us. refl)
     placed (t ∷ ts) f lt h = by_label t ts f (omega (arith, lt)) (label_test dialect t (first ts)) refl h
 
-abbrev solid_line : (dialect : Dialect) → Reading LineText
+abbrev pub solid_line : (dialect : Dialect) → Reading LineText
 solid_line dialect = closed (either_line_at dialect) (stand is_line_stop tt)
 
-solid_line_exact : (dialect : Dialect) → (n : ℕ) (k : Check) → Below dialect n k → LineEnd dialect k → Exact dialect (suc n) (followed (solid_line dialect) k)
+pub solid_line_exact : (dialect : Dialect) → (n : ℕ) (k : Check) → Below dialect n k → LineEnd dialect k → Exact dialect (suc n) (followed (solid_line dialect) k)
 solid_line_exact dialect n k b s = closed_exact dialect (either_line_at dialect) (stand is_line_stop tt) (suc n) k (content_exact dialect n m
     (stand_exact dialect stops_line tt n k b s.text s.stop s.reads)
     (record { text = s.text; stop = s.stop; no_colon = s.no_colon; reads = stand_same is_line_stop tt k (tokens_of dialect s.text) ∙ rw s.stop s.reads }))
@@ -471,20 +471,20 @@ solid_line_exact dialect n k b s = closed_exact dialect (either_line_at dialect)
 
 -- declarations
 
-led_blind : {X : Type 0} (m : Reading (Unit {0})) (a : Reading X) (k : Check) → Blind (followed (led (past m) a) k)
+pub led_blind : {X : Type 0} (m : Reading (Unit {0})) (a : Reading X) (k : Check) → Blind (followed (led (past m) a) k)
 led_blind m a k ts = ap (followed (led m a) k) (sym (skips_once ts))
 
-abbrev solid_name : Reading Token
+abbrev pub solid_name : Reading Token
 solid_name = led (mark (expect signs.Comma)) (past (expect signs.Name))
 
-solid_name_exact : (dialect : Dialect) → (n : ℕ) (k : Check) → Exact dialect n k → Exact dialect (suc (suc n)) (followed solid_name k)
+pub solid_name_exact : (dialect : Dialect) → (n : ℕ) (k : Check) → Exact dialect n k → Exact dialect (suc (suc n)) (followed solid_name k)
 solid_name_exact dialect n k e = led_exact dialect (mark (expect signs.Comma)) (past (expect signs.Name)) _ k (sign_exact dialect signs.Comma (comma_written dialect) _ _ (past_expect_exact dialect signs.Name (name_written dialect) n k e))
 
-names_listed : Listed no_comma ends_names solid_name name_at
+pub names_listed : Listed no_comma ends_names solid_name name_at
 unfolding ends_names name_at
 names_listed = record { stop = λ ts. refl; past = λ ts. refl; less = name_shrinks }
 
-more_names_exact : (dialect : Dialect) → (n : ℕ) (k : Check) → Exact dialect n k → Blind k → Stopped dialect no_comma k → Exact dialect n (followed (many ends_names name_at) k)
+pub more_names_exact : (dialect : Dialect) → (n : ℕ) (k : Check) → Exact dialect n k → Blind k → Stopped dialect no_comma k → Exact dialect n (followed (many ends_names name_at) k)
 more_names_exact dialect n k e blind s = list_exact dialect no_comma ends_names solid_name name_at n k names_listed blind s e.placed
     (λ p m. (fewer dialect (followed solid_name more) (suc p) (solid_name_exact dialect p more m)).placed)
   where
@@ -494,7 +494,7 @@ more_names_exact dialect n k e blind s = list_exact dialect no_comma ends_names 
 abbrev a_location : Reading Token
 a_location = led (keyword (codes "AT")) (past (expect signs.Address))
 
-names_exact : (dialect : Dialect) → (n : ℕ) (k : Check) → Exact dialect n k → Blind k → Stopped dialect no_comma k → Exact dialect n (followed names_at k)
+pub names_exact : (dialect : Dialect) → (n : ℕ) (k : Check) → Exact dialect n k → Blind k → Stopped dialect no_comma k → Exact dialect n (followed names_at k)
 unfolding names_at keyword expect spells skip_breaks
 names_exact dialect n k e blind s = either_exact dialect (is_word_token (codes "AT")) (mapped Located a_location) (mapped More (many ends_names name_at)) n k
     (fewer dialect (followed (mapped Located a_location) k) n (fewer dialect (followed (mapped Located a_location) k) (suc n) on)).placed
@@ -504,14 +504,14 @@ names_exact dialect n k e blind s = either_exact dialect (is_word_token (codes "
     on : Exact dialect (suc (suc n)) (followed (mapped Located a_location) k)
     on = mapped_exact dialect Located a_location _ k (led_exact dialect (keyword (codes "AT")) (past (expect signs.Address)) _ k (keyword_exact dialect (codes "AT") (at_written dialect) _ _ (past_expect_exact dialect signs.Address (address_written dialect) n k e)))
 
-past_names_exact : (dialect : Dialect) → (n : ℕ) (k : Check) → Exact dialect n k → Blind k → Stopped dialect no_comma k → Exact dialect n (followed (past names_at) k)
+pub past_names_exact : (dialect : Dialect) → (n : ℕ) (k : Check) → Exact dialect n k → Blind k → Stopped dialect no_comma k → Exact dialect n (followed (past names_at) k)
 unfolding names_at keyword expect spells skip_breaks
 past_names_exact dialect n k e blind s = past_exact dialect (followed names_at k) n (names_exact dialect n k e blind s).placed (an_at (an_address e.some.0)) (rw (at_makes dialect (an_address e.some.0)) refl) (rw (at_makes dialect (an_address e.some.0), address_makes dialect e.some.0) e.some.1)
 
 abbrev a_value : Reading Token
 a_value = led (mark (expect signs.Assign)) (past constant_at)
 
-initial_exact : (dialect : Dialect) → (n : ℕ) (k : Check) → Exact dialect n k → Exact dialect n (followed initial_at k)
+pub initial_exact : (dialect : Dialect) → (n : ℕ) (k : Check) → Exact dialect n k → Exact dialect n (followed initial_at k)
 unfolding initial_at expect constant_at is_constant skip_breaks spells
 initial_exact dialect n k e = option_exact dialect (is_sign signs.Assign) (mapped Some a_value) None n k e.placed
     (fewer dialect (followed (mapped Some a_value) k) n (fewer dialect (followed (mapped Some a_value) k) (suc n) on)).placed
@@ -520,7 +520,7 @@ initial_exact dialect n k e = option_exact dialect (is_sign signs.Assign) (mappe
     on : Exact dialect (suc (suc n)) (followed (mapped Some a_value) k)
     on = mapped_exact dialect Some a_value _ k (led_exact dialect (mark (expect signs.Assign)) (past constant_at) _ k (sign_exact dialect signs.Assign (assign_written dialect) _ _ (past_constant_exact dialect n k e)))
 
-past_initial_exact : (dialect : Dialect) → (n : ℕ) (k : Check) → Exact dialect n k → Exact dialect n (followed (past initial_at) k)
+pub past_initial_exact : (dialect : Dialect) → (n : ℕ) (k : Check) → Exact dialect n k → Exact dialect n (followed (past initial_at) k)
 unfolding initial_at expect constant_at is_constant skip_breaks spells
 past_initial_exact dialect n k e = past_exact dialect (followed initial_at k) n (initial_exact dialect n k e).placed (an_assign (a_truth e.some.0)) (rw (assign_makes dialect (a_truth e.some.0)) refl) (rw (assign_makes dialect (a_truth e.some.0), truth_makes dialect e.some.0) e.some.1)
 
@@ -533,14 +533,14 @@ typed = pair (past (expect signs.Name)) valued
 abbrev colon_typed : Reading (Token × Option Token)
 colon_typed = led (past (mark (expect signs.Colon))) typed
 
-typed_exact : (dialect : Dialect) → (n : ℕ) (k : Check) → Exact dialect n k → Exact dialect (suc (suc n)) (followed typed k)
+pub typed_exact : (dialect : Dialect) → (n : ℕ) (k : Check) → Exact dialect n k → Exact dialect (suc (suc n)) (followed typed k)
 typed_exact dialect n k e = pair_exact dialect (past (expect signs.Name)) valued _ k (past_expect_exact dialect signs.Name (name_written dialect) _ _
     (closed_exact dialect (past initial_at) (past (mark (expect signs.Semicolon))) _ k (past_initial_exact dialect _ _ (past_sign_exact dialect signs.Semicolon (semicolon_written dialect) n k e))))
 
-abbrev solid_declaration : Reading DeclarationText
+abbrev pub solid_declaration : Reading DeclarationText
 solid_declaration = mapped declared (pair (expect signs.Name) (pair (past names_at) colon_typed))
 
-solid_declaration_exact : (dialect : Dialect) → (n : ℕ) (k : Check) → Exact dialect n k → Exact dialect (suc (suc (suc (suc n)))) (followed solid_declaration k)
+pub solid_declaration_exact : (dialect : Dialect) → (n : ℕ) (k : Check) → Exact dialect n k → Exact dialect (suc (suc (suc (suc n)))) (followed solid_declaration k)
 unfolding expect skip_breaks
 solid_declaration_exact dialect n k e = mapped_exact dialect declared (pair (expect signs.Name) (pair (past names_at) colon_typed)) _ k
     (pair_exact dialect (expect signs.Name) (pair (past names_at) colon_typed) _ k (expect_exact dialect signs.Name (name_written dialect) _ _
@@ -555,11 +555,11 @@ solid_declaration_exact dialect n k e = mapped_exact dialect declared (pair (exp
     stopped : Stopped dialect no_comma (followed colon_typed k)
     stopped = record { text = a_colon t.some.0; stop = rw (colon_makes dialect t.some.0) refl; solid = rw (colon_makes dialect t.some.0) refl; reads = rw (colon_makes dialect t.some.0) t.some.1 }
 
-declarations_listed : Listed (is_word_token (codes "END_VAR")) ends_block solid_declaration declaration_at
+pub declarations_listed : Listed (is_word_token (codes "END_VAR")) ends_block solid_declaration declaration_at
 unfolding ends_block declaration_at
 declarations_listed = record { stop = λ ts. refl; past = λ ts. refl; less = declaration_shrinks }
 
-declarations_exact : (dialect : Dialect) → (n : ℕ) (k : Check) → Exact dialect n k → Exact dialect (suc n) (followed (many ends_block declaration_at) (followed (past (keyword (codes "END_VAR"))) k))
+pub declarations_exact : (dialect : Dialect) → (n : ℕ) (k : Check) → Exact dialect n k → Exact dialect (suc n) (followed (many ends_block declaration_at) (followed (past (keyword (codes "END_VAR"))) k))
 unfolding keyword spells skip_breaks
 declarations_exact dialect n k e = list_exact dialect (is_word_token (codes "END_VAR")) ends_block solid_declaration declaration_at (suc n) c declarations_listed (past_blind (keyword (codes "END_VAR")) k)
     (record { text = an_end_var e.some.0; stop = rw (end_var_makes dialect e.some.0) refl; solid = rw (end_var_makes dialect e.some.0) refl; reads = rw (end_var_makes dialect e.some.0) e.some.1 })
@@ -578,7 +578,7 @@ declared_block = closed (many ends_block declaration_at) (past (keyword (codes "
 abbrev in_block : (dialect : Dialect) → Reading BlockText
 in_block dialect = mapped blocked (pair (past (qualifier_at dialect)) declared_block)
 
-abbrev solid_block : (dialect : Dialect) → Reading BlockText
+abbrev pub solid_block : (dialect : Dialect) → Reading BlockText
 solid_block dialect = led (keyword (block_word dialect)) (in_block dialect)
 
 -- the declarations of a block, where something is read behind them
@@ -595,7 +595,7 @@ unfolding spells
 end_unqualified dialects.Plain text = refl
 end_unqualified dialects.Extended text = rw (end_var_makes dialects.Extended text) refl
 
-either_qualifier_exact : (dialect : Dialect) → (n : ℕ) (k : Check) → Exact dialect n k → Exact dialect (suc n) (followed either_qualifier_at k)
+pub either_qualifier_exact : (dialect : Dialect) → (n : ℕ) (k : Check) → Exact dialect n k → Exact dialect (suc n) (followed either_qualifier_at k)
 unfolding either_qualifier_at keyword spells
 either_qualifier_exact dialect n k e = either_exact dialect (is_word_token (codes "RETAIN")) (this_qualifier qualifiers.Retain) (this_qualifier qualifiers.NonRetain) (suc n) k
     (mapped_exact dialect (λ u. qualifiers.Retain) (keyword (codes "RETAIN")) _ k (keyword_exact dialect (codes "RETAIN") (retain_written dialect) n k e)).placed
@@ -603,7 +603,7 @@ either_qualifier_exact dialect n k e = either_exact dialect (is_word_token (code
     (written (codes "RETAIN") e.some.0) (rw (retain_makes dialect e.some.0) e.some.1)
 
 -- a qualifier, or none, in front of the declarations of a block
-qualifier_exact : (dialect : Dialect) → (n : ℕ) (k : Check) → Exact dialect n k → Exact dialect (suc n) (followed (qualifier_at dialect) (followed declared_block k))
+pub qualifier_exact : (dialect : Dialect) → (n : ℕ) (k : Check) → Exact dialect n k → Exact dialect (suc n) (followed (qualifier_at dialect) (followed declared_block k))
 unfolding qualifier_at
 qualifier_exact dialect n k e = stop_exact dialect (is_no_qualifier dialect) None (mapped Some either_qualifier_at) (suc n) rest
     rest_exact.placed
@@ -631,12 +631,12 @@ block_reads dialect more text reads =
     ∙ ap (λ (ts : List Token). followed (qualifier_at dialect) (followed declared_block more) ts) (no_break (tokens_of dialect (an_end_var text)) (rw (end_var_makes dialect text) refl))
     ∙ qualified_reads dialect more text reads
 
-in_block_exact : (dialect : Dialect) → (n : ℕ) (k : Check) → Exact dialect n k → Exact dialect (suc n) (followed (in_block dialect) k)
+pub in_block_exact : (dialect : Dialect) → (n : ℕ) (k : Check) → Exact dialect n k → Exact dialect (suc n) (followed (in_block dialect) k)
 in_block_exact dialect n k e = mapped_exact dialect blocked (pair (past (qualifier_at dialect)) declared_block) (suc n) k
     (pair_exact dialect (past (qualifier_at dialect)) declared_block (suc n) k
     (past_exact dialect (followed (qualifier_at dialect) (followed declared_block k)) (suc n) (qualifier_exact dialect n k e).placed (an_end_var e.some.0) (rw (end_var_makes dialect e.some.0) refl) (qualified_reads dialect k e.some.0 e.some.1)))
 
-solid_block_exact : (dialect : Dialect) → (n : ℕ) (k : Check) → Exact dialect n k → Exact dialect (suc (suc n)) (followed (solid_block dialect) k)
+pub solid_block_exact : (dialect : Dialect) → (n : ℕ) (k : Check) → Exact dialect n k → Exact dialect (suc (suc n)) (followed (solid_block dialect) k)
 unfolding spells
 solid_block_exact dialect n k e = led_exact dialect (keyword (block_word dialect)) (in_block dialect) _ k (keyword_exact dialect (block_word dialect) (var_written dialect) _ _ (in_block_exact dialect n k e))
 
@@ -652,22 +652,22 @@ turned true a b = refl
 turned false a b = refl
 
 blocks_same : (dialect : Dialect) → (k : Check) → Blind k → (ts : List Token) → many_blocks dialect k ts ≡ blocks_body dialect k (many_blocks dialect k) (skip_breaks ts)
-unfolding ends_blocks block_at
+unfolding ends_blocks block_at declared_at
 blocks_same dialect k blind ts =
     let block = followed (solid_block dialect) (many_blocks dialect k) (skip_breaks ts) in
     unrolls (ends_blocks dialect) (block_at dialect) (block_shrinks dialect) k ts
     ∙ turned (begins_block dialect (skip_breaks ts)) (k ts) block
     ∙ ap (λ (z : Result (Unit {0}) FaultAt). cond (begins_block dialect (skip_breaks ts)) block z) (blind ts)
 
-blocks_blind : (dialect : Dialect) → (k : Check) → Blind k → Blind (many_blocks dialect k)
+pub blocks_blind : (dialect : Dialect) → (k : Check) → Blind k → Blind (many_blocks dialect k)
 blocks_blind dialect k blind ts = blocks_same dialect k blind ts ∙ sym (blocks_same dialect k blind (skip_breaks ts) ∙ ap (blocks_body dialect k (many_blocks dialect k)) (skips_once ts))
 
 -- something that is read behind blocks, and begins none
-record NoBlock (dialect : Dialect) (k : Check) : Type 0 where
-  text : List ℕ
-  stop : begins_block dialect (tokens_of dialect text) ≡ false
-  solid : is_sign signs.Break (first (tokens_of dialect text)) ≡ false
-  reads : k (tokens_of dialect text) ≡ good
+pub record NoBlock (dialect : Dialect) (k : Check) : Type 0 where
+  pub text : List ℕ
+  pub stop : begins_block dialect (tokens_of dialect text) ≡ false
+  pub solid : is_sign signs.Break (first (tokens_of dialect text)) ≡ false
+  pub reads : k (tokens_of dialect text) ≡ good
 
 body_reads : (dialect : Dialect) → (k more : Check) (s : NoBlock dialect k) → blocks_body dialect k more (tokens_of dialect s.text) ≡ good
 body_reads dialect k more s =
@@ -684,10 +684,10 @@ no_block dialects.Plain t ts e = e
 no_block dialects.Extended t ts e = rw e refl
 
 -- what is checked behind the word where it is a label
-record Labels (dialect : Dialect) (k : Check) : Type 0 where
-  label : Check
-  same : (t : Token) (us : List Token) → is_word_token (codes "VAR_GLOBAL") t ≡ true → is_sign signs.Colon (first us) ≡ true → k (t ∷ us) ≡ label us
-  exact : (n : ℕ) → Below dialect n label
+pub record Labels (dialect : Dialect) (k : Check) : Type 0 where
+  pub label : Check
+  pub same : (t : Token) (us : List Token) → is_word_token (codes "VAR_GLOBAL") t ≡ true → is_sign signs.Colon (first us) ≡ true → k (t ∷ us) ≡ label us
+  pub exact : (n : ℕ) → Below dialect n label
 
 -- behind VAR_GLOBAL a label goes on, or a block
 extended_below : (k : Check) (p : ℕ) → Below dialects.Extended (suc p) k → Labels dialects.Extended k → NoBlock dialects.Extended k → Exact dialects.Extended p (many_blocks dialects.Extended k) → Below dialects.Extended (suc p) (blocks_body dialects.Extended k (many_blocks dialects.Extended k))
@@ -741,7 +741,7 @@ body_below dialects.Plain k p b l s m =
     choice_below dialects.Plain (is_word_token (codes "VAR")) block k (suc p) (fewer dialects.Plain block (suc p) (solid_block_exact dialects.Plain p more m)).placed b (s.text, body_reads dialects.Plain k more s)
 body_below dialects.Extended k p b l s m = extended_below k p b l s m
 
-blocks_exact : (dialect : Dialect) → (n : ℕ) (k : Check) → Below dialect n k → Blind k → NoBlock dialect k → Labels dialect k → Exact dialect n (many_blocks dialect k)
+pub blocks_exact : (dialect : Dialect) → (n : ℕ) (k : Check) → Below dialect n k → Blind k → NoBlock dialect k → Labels dialect k → Exact dialect n (many_blocks dialect k)
 blocks_exact dialect n k b blind s l = record { placed = climb n (omega arith); some = some }
   where
     some : ReadsSome dialect (many_blocks dialect k)
@@ -768,16 +768,16 @@ good_is_bad f e = absurd cc
 final_below : (dialect : Dialect) → (n : ℕ) → Below dialect n final
 final_below dialect n ts f lt h = absurd (good_is_bad f h)
 
-past_end_exact : (dialect : Dialect) → (n : ℕ) → Exact dialect n (followed (past end_at) final)
+pub past_end_exact : (dialect : Dialect) → (n : ℕ) → Exact dialect n (followed (past end_at) final)
 unfolding end_at
 past_end_exact dialect n = past_exact dialect (followed end_at final) n (stand_exact dialect (is_end) tt n final (final_below dialect n) [] (rw (end_makes dialect) refl) refl).placed [] (rw (end_makes dialect) refl) (rw (end_makes dialect) refl)
 
-finish_exact : (dialect : Dialect) → (n : ℕ) → Exact dialect (suc n) (followed finish_at final)
+pub finish_exact : (dialect : Dialect) → (n : ℕ) → Exact dialect (suc n) (followed finish_at final)
 unfolding finish_at spells
 finish_exact dialect n = led_exact dialect (past (keyword (codes "END_PROGRAM"))) (past end_at) _ final (past_keyword_exact dialect (codes "END_PROGRAM") (end_program_written dialect) n _ (past_end_exact dialect n))
 
 -- the lines of a program, and what stands behind them
-lines_exact : (dialect : Dialect) → (q : Token → Bool) (stops : List Token → Bool) (n : ℕ) (k : Check) → Listed q stops (solid_line dialect) (line_at dialect) → Blind k → Stopped dialect q k → Below dialect n k → LineEnd dialect (followed (many stops (line_at dialect)) k) → Exact dialect n (followed (many stops (line_at dialect)) k)
+pub lines_exact : (dialect : Dialect) → (q : Token → Bool) (stops : List Token → Bool) (n : ℕ) (k : Check) → Listed q stops (solid_line dialect) (line_at dialect) → Blind k → Stopped dialect q k → Below dialect n k → LineEnd dialect (followed (many stops (line_at dialect)) k) → Exact dialect n (followed (many stops (line_at dialect)) k)
 lines_exact dialect q stops n k listed blind s b ends = list_exact dialect q stops (solid_line dialect) (line_at dialect) n k listed blind s b (λ p m. (solid_line_exact dialect p (followed (many stops (line_at dialect)) k) m.placed ends).placed)
 
 bare_listed : (dialect : Dialect) → Listed (is_end) ends_lines (solid_line dialect) (line_at dialect)
@@ -802,14 +802,14 @@ named_stopped : (dialect : Dialect) → Stopped dialect (is_word_token (codes "E
 unfolding finish_at keyword end_at skip_breaks spells
 named_stopped dialect = record { text = an_end_program []; stop = rw (end_program_makes dialect []) refl; solid = rw (end_program_makes dialect []) refl; reads = rw (end_program_makes dialect [], end_makes dialect) refl }
 
-finish_blind : Blind (followed finish_at final)
+pub finish_blind : Blind (followed finish_at final)
 unfolding finish_at
 finish_blind = led_blind (keyword (codes "END_PROGRAM")) (past end_at) final
 
-bare_lines_blind : (dialect : Dialect) → Blind (bare_lines dialect)
+pub bare_lines_blind : (dialect : Dialect) → Blind (bare_lines dialect)
 bare_lines_blind dialect = list_blind (is_end) ends_lines (solid_line dialect) (line_at dialect) (followed (past end_at) final) (bare_listed dialect) (past_blind end_at final)
 
-named_lines_blind : (dialect : Dialect) → Blind (named_lines dialect)
+pub named_lines_blind : (dialect : Dialect) → Blind (named_lines dialect)
 named_lines_blind dialect = list_blind (is_word_token (codes "END_PROGRAM")) ends_named (solid_line dialect) (line_at dialect) (followed finish_at final) (named_listed dialect) finish_blind
 
 bare_lines_read : (dialect : Dialect) → bare_lines dialect (tokens_of dialect []) ≡ good
@@ -823,7 +823,7 @@ named_lines_read dialect = list_some dialect (is_word_token (codes "END_PROGRAM"
 bare_end : (dialect : Dialect) → LineEnd dialect (bare_lines dialect)
 bare_end dialect = record { text = []; stop = rw (end_makes dialect) refl; no_colon = rw (end_makes dialect) refl; reads = bare_lines_read dialect }
 
-bare_lines_exact : (dialect : Dialect) → (n : ℕ) → Exact dialect n (bare_lines dialect)
+pub bare_lines_exact : (dialect : Dialect) → (n : ℕ) → Exact dialect n (bare_lines dialect)
 bare_lines_exact dialect n = lines_exact dialect (is_end) ends_lines n (followed (past end_at) final) (bare_listed dialect) (past_blind end_at final) (bare_stopped dialect) (past_end_exact dialect n).placed (bare_end dialect)
 
 named_end : (dialect : Dialect) → LineEnd dialect (named_lines dialect)
@@ -836,7 +836,7 @@ named_end dialect = record { text = a_break (an_end_program []); stop = rw (brea
         ∙ sym (named_lines_blind dialect (tokens_of dialect (an_end_program [])))
         ∙ named_lines_read dialect
 
-named_lines_exact : (dialect : Dialect) → (n : ℕ) → Exact dialect n (named_lines dialect)
+pub named_lines_exact : (dialect : Dialect) → (n : ℕ) → Exact dialect n (named_lines dialect)
 named_lines_exact dialect n = lines_exact dialect (is_word_token (codes "END_PROGRAM")) ends_named n (followed finish_at final) (named_listed dialect) finish_blind (named_stopped dialect) (fewer dialect (followed finish_at final) n (finish_exact dialect n)).placed (named_end dialect)
 
 -- a name is no line end, and not the end
@@ -900,10 +900,10 @@ bare_body_same dialect = closed_same (many ends_lines (line_at dialect)) (past e
 named_body_same : (dialect : Dialect) → (ts : List Token) → followed (named_body dialect) final ts ≡ named_lines dialect ts
 named_body_same dialect = closed_same (many ends_named (line_at dialect)) finish_at final
 
-bare_body_blind : (dialect : Dialect) → Blind (followed (bare_body dialect) final)
+pub bare_body_blind : (dialect : Dialect) → Blind (followed (bare_body dialect) final)
 bare_body_blind dialect ts = bare_body_same dialect ts ∙ bare_lines_blind dialect ts ∙ sym (bare_body_same dialect (skip_breaks ts))
 
-named_body_blind : (dialect : Dialect) → Blind (followed (named_body dialect) final)
+pub named_body_blind : (dialect : Dialect) → Blind (followed (named_body dialect) final)
 named_body_blind dialect ts = named_body_same dialect ts ∙ named_lines_blind dialect ts ∙ sym (named_body_same dialect (skip_breaks ts))
 
 bare_body_stopped : (dialect : Dialect) → NoBlock dialect (followed (bare_body dialect) final)
@@ -938,17 +938,17 @@ bare_blocks dialect = followed (many (ends_blocks dialect) (block_at dialect)) (
 abbrev named_blocks : (dialect : Dialect) → Check
 named_blocks dialect = followed (many (ends_blocks dialect) (block_at dialect)) (followed (named_body dialect) final)
 
-bare_blocks_exact : (dialect : Dialect) → (n : ℕ) → Exact dialect n (bare_blocks dialect)
+pub bare_blocks_exact : (dialect : Dialect) → (n : ℕ) → Exact dialect n (bare_blocks dialect)
 bare_blocks_exact dialect n = blocks_exact dialect n (followed (bare_body dialect) final) (closed_exact dialect (many ends_lines (line_at dialect)) (past end_at) n final (bare_lines_exact dialect n)).placed (bare_body_blind dialect) (bare_body_stopped dialect) (bare_labels dialect)
 
-named_blocks_exact : (dialect : Dialect) → (n : ℕ) → Exact dialect n (named_blocks dialect)
+pub named_blocks_exact : (dialect : Dialect) → (n : ℕ) → Exact dialect n (named_blocks dialect)
 named_blocks_exact dialect n = blocks_exact dialect n (followed (named_body dialect) final) (closed_exact dialect (many ends_named (line_at dialect)) finish_at n final (named_lines_exact dialect n)).placed (named_body_blind dialect) (named_body_stopped dialect) (named_labels dialect)
 
 bare_same : (dialect : Dialect) → (ts : List Token) → followed (bare_at dialect) final ts ≡ bare_blocks dialect ts
 unfolding bare_at
 bare_same dialect ts = mapped_same bare_program (pair (many (ends_blocks dialect) (block_at dialect)) (bare_body dialect)) final ts ∙ pair_same (many (ends_blocks dialect) (block_at dialect)) (bare_body dialect) final ts
 
-bare_blind : (dialect : Dialect) → Blind (followed (bare_at dialect) final)
+pub bare_blind : (dialect : Dialect) → Blind (followed (bare_at dialect) final)
 bare_blind dialect ts =
     let seen : Blind (bare_blocks dialect) = blocks_blind dialect (followed (bare_body dialect) final) (bare_body_blind dialect) in
     bare_same dialect ts ∙ seen ts ∙ sym (bare_same dialect (skip_breaks ts))
@@ -960,10 +960,10 @@ bare_read dialect = bare_same dialect (tokens_of dialect []) ∙ blocks_read dia
 abbrev titled : (dialect : Dialect) → Reading ProgramText
 titled dialect = mapped named_program (pair (expect signs.Name) (pair (many (ends_blocks dialect) (block_at dialect)) (named_body dialect)))
 
-abbrev solid_named : (dialect : Dialect) → Reading ProgramText
+abbrev pub solid_named : (dialect : Dialect) → Reading ProgramText
 solid_named dialect = led (keyword (codes "PROGRAM")) (titled dialect)
 
-solid_named_exact : (dialect : Dialect) → (n : ℕ) → Exact dialect n (followed (solid_named dialect) final)
+pub solid_named_exact : (dialect : Dialect) → (n : ℕ) → Exact dialect n (followed (solid_named dialect) final)
 unfolding spells
 solid_named_exact dialect n = fewer dialect (followed (solid_named dialect) final) n (fewer dialect (followed (solid_named dialect) final) (suc n)
     (led_exact dialect (keyword (codes "PROGRAM")) (titled dialect) _ final (keyword_exact dialect (codes "PROGRAM") (program_written dialect) _ _
@@ -971,7 +971,7 @@ solid_named_exact dialect n = fewer dialect (followed (solid_named dialect) fina
     (pair_exact dialect (expect signs.Name) (pair (many (ends_blocks dialect) (block_at dialect)) (named_body dialect)) _ final (expect_exact dialect signs.Name (name_written dialect) n _
     (pair_exact dialect (many (ends_blocks dialect) (block_at dialect)) (named_body dialect) n final (named_blocks_exact dialect n))))))))
 
-program_exact : (dialect : Dialect) → (n : ℕ) → Exact dialect n (followed (program_at dialect) final)
+pub program_exact : (dialect : Dialect) → (n : ℕ) → Exact dialect n (followed (program_at dialect) final)
 unfolding program_at begins_program named_at
 program_exact dialect n = same_exact dialect (followed (program_at dialect) final) (behind_breaks body) n same (past_exact dialect body n below [] (rw (end_makes dialect) refl) reads)
   where

@@ -10,3 +10,4 @@ pub mod Checks
 pub mod FirstFaults
 pub mod TextFaults
 pub mod WorkedFaults
+pub mod NameRuns

@@ -19,41 +19,41 @@ use Rattle.il_reader.specs.declared.operations.Form.TheVariants as forms
 use Rattle.il_reader.specs.Tokens.{Token}
 use Rattle.il_reader.specs.Front.{same_sign, is_class_of, is_sign, is_end_class, first, skip_breaks, next_is, at_end, is_word_token, next_is_word}
 use Rattle.il_reader.specs.Reading.{◌>>=◌, Reading, expect, both, pair, choice, mapped, mark, stand, many, closed, keyword}
-use Rattle.il_reader.specs.Grammar.{block_word, OperandText, Constant, Direct, Named, Field, ArgumentText, CallText, BehindText, Nothing, Given, Target, Opened, Called, no_dot, before_dot, before_no_dot, ends_arguments, before_close, no_open, OperationText, LineText, Labelled, Plain, NamesText, Located, More, DeclarationText, ProgramText, is_truth, is_variable, is_constant, form_of, operator_of, is_line_stop, is_label, is_no_label, ends_lines, ends_named, ends_names, no_value, ends_block, ends_blocks, begins_program, BlockText, qualifier_word, no_qualifier, is_qualifier}
-use Rattle.il_reader.specs.Walk.{field_at, inner_field_at, named_by, named, next_is_variable, lone_at, inner_operand_at, an_output, an_input, side_at, an_argument, argument_at, next_argument_at, together, inside_at, arguments_at, a_call, call_at, operator_at, variable_at, constant_at, operand_at, optional_operand_at, nested_at, either_at, behind_at, operation_at, optional_operation_at, labelled, labelled_at, plain_at, either_line_at, line_at, name_at, names_at, initial_at, declared, declaration_at, either_qualifier_at, qualifier_at, blocked, block_at, named_program, bare_program, end_at, finish_at, named_at, bare_at, program_at}
+use Rattle.il_reader.specs.Grammar.{block_word, OperandText, Constant, Direct, Named, Field, ArgumentText, CallText, BehindText, Nothing, Given, Target, Opened, Called, no_dot, before_dot, before_no_dot, ends_arguments, before_close, no_open, OperationText, LineText, Labelled, Plain, NamesText, Located, More, DeclarationText, ProgramText, is_truth, is_variable, is_constant, form_of, operator_of, is_line_stop, is_label, is_no_label, ends_lines, ends_named, ends_names, no_value, ends_block, ends_blocks, begins_program, BlockText, qualifier_word, no_qualifier, reads_as_qualifier}
+use Rattle.il_reader.specs.Walk.{field_at, inner_field_at, named_by, named, next_is_variable, lone_at, inner_operand_at, an_output, an_input, side_at, an_argument, argument_at, next_argument_at, together, inside_at, arguments_at, a_call, call_at, operator_at, variable_at, constant_at, operand_at, optional_operand_at, nested_at, either_at, behind_at, operation_at, optional_operation_at, labelled, labelled_at, plain_at, either_line_at, line_at, name_at, names_at, initial_at, declared, declaration_at, either_qualifier_at, qualifier_at, declared_at, blocked, block_at, named_program, bare_program, end_at, finish_at, named_at, bare_at, program_at}
 use Rattle.il_reader.specs.Spelling.{Part, breaks, one, this, operator, ahead, Spell, name, sign, word, spelled_operand, spelled_inner_operand, spelled_side, spelled_argument, spelled_next, spelled_inside, spelled_arguments, spelled_call, spelled_optional, accepts, accepting, spelled_behind, spelled_operation, spelled_optional_operation, spelled_content, spelled_line, spelled_name, is_not_at, spelled_names, spelled_initial, spelled_declaration, spelled_qualifier, spelled_block, is_bare, spelled_bare, spelled_by, spelled_program, listed}
 use Rattle.il_reader.proofs.Laws.{Law, Any, ok_is, bind_ok, count, law_shrinks, led_law, closed_law, many_law, until_law, pair_law, mapped_law, choice_law, told_law, past_law, else_law, no_front, stand_law, token_law, one_law, mark_law, meaning_law}
 
 -- tokens
 
-expect_law : (s : Sign) → Law Any (λ t. this (is_sign s) t ∷ []) (expect s)
+pub expect_law : (s : Sign) → Law Any (λ t. this (is_sign s) t ∷ []) (expect s)
 unfolding expect
 expect_law s = token_law (is_sign s) refl
 
-mark_expect_law : (s : Sign) → Law Any (λ (u : Unit {0}). one (is_sign s) ∷ []) (mark (expect s))
+pub mark_expect_law : (s : Sign) → Law Any (λ (u : Unit {0}). one (is_sign s) ∷ []) (mark (expect s))
 unfolding expect
 mark_expect_law s = mark_law (is_sign s) (expect_law s)
 
 -- the token that begins
-front : (p : Token → Bool) (ps : List Part) (ts rest : List Token) → Spell (one p ∷ ps) ts rest → p (first ts) ≡ true
+pub front : (p : Token → Bool) (ps : List Part) (ts rest : List Token) → Spell (one p ∷ ps) ts rest → p (first ts) ≡ true
 front p ps [] rest h = absurd h
 front p ps (t ∷ ts) rest h = h.0
 
-front_this : (p : Token → Bool) (x : Token) (ps : List Part) (ts rest : List Token) → Spell (this p x ∷ ps) ts rest → p (first ts) ≡ true
+pub front_this : (p : Token → Bool) (x : Token) (ps : List Part) (ts rest : List Token) → Spell (this p x ∷ ps) ts rest → p (first ts) ≡ true
 front_this p x ps [] rest h = absurd h
 front_this p x ps (t ∷ ts) rest h = h.0.0
 
-false_true : false ≡ true → ⊥
+pub false_true : false ≡ true → ⊥
 false_true e = absurd cc
 
-true_false : true ≡ false → ⊥
+pub true_false : true ≡ false → ⊥
 true_false e = absurd cc
 
-and_left : (a b : Bool) → (a && b) ≡ true → a ≡ true
+pub and_left : (a b : Bool) → (a && b) ≡ true → a ≡ true
 and_left true b e = refl
 and_left false b e = absurd cc
 
-and_right : (a b : Bool) → (a && b) ≡ true → b ≡ true
+pub and_right : (a b : Bool) → (a && b) ≡ true → b ≡ true
 and_right true b e = e
 and_right false b e = absurd cc
 
@@ -61,16 +61,16 @@ abbrev pub IsSome : {X : Type 0} → Option X → Type 0
 IsSome None = ⊥
 IsSome (Some x) = Unit {0}
 
-some_from : {X : Type 0} (o : Option X) → IsSome o → (x : X) × (Some x ≡ o)
+pub some_from : {X : Type 0} (o : Option X) → IsSome o → (x : X) × (Some x ≡ o)
 some_from None d = absurd d
 some_from (Some x) d = (x, refl)
 
-some_or_none : {X : Type 0} (o : Option X) → IsSome o ⊎ (None ≡ o)
+pub some_or_none : {X : Type 0} (o : Option X) → IsSome o ⊎ (None ≡ o)
 some_or_none None = inr refl
 some_or_none (Some x) = inl tt
 
 -- signs that pass as the same are
-same_is : (a b : Sign) → same_sign a b ≡ true → a ≡ b
+pub same_is : (a b : Sign) → same_sign a b ≡ true → a ≡ b
 same_is signs.Break signs.Break e = refl
 same_is signs.Name signs.Name e = refl
 same_is signs.Literal signs.Literal e = refl
@@ -86,7 +86,7 @@ same_is signs.Dot signs.Dot e = refl
 same_is signs.Ampersand signs.Ampersand e = refl
 same_is _ _ e = absurd cc
 
-class_is : (s : Sign) (t : Token) → is_sign s t ≡ true → t.class ≡ classes.Sign s
+pub class_is : (s : Sign) (t : Token) → is_sign s t ≡ true → t.class ≡ classes.Sign s
 class_is s t is = by_class t.class is
   where
     by_class : (c : Class) → is_class_of s c ≡ true → c ≡ classes.Sign s
@@ -95,11 +95,11 @@ class_is s t is = by_class t.class is
     by_class classes.End e = absurd cc
 
 -- what a sign is not, a token of that sign is not
-sign_not : (p : Class → Bool) (s : Sign) (t : Token) → is_sign s t ≡ true → p (classes.Sign s) ≡ false → p t.class ≡ false
+pub sign_not : (p : Class → Bool) (s : Sign) (t : Token) → is_sign s t ≡ true → p (classes.Sign s) ≡ false → p t.class ≡ false
 sign_not p s t is lacks = rw (class_is s t is) lacks
 
 -- the same under another spelling that is the same
-told_spelling : {X : Type 0} (D : X → Type 0) (s q : X → List Part) (a : Reading X) → Law D s a → ((x : X) → D x → q x ≡ s x) → Law D q a
+pub told_spelling : {X : Type 0} (D : X → Type 0) (s q : X → List Part) (a : Reading X) → Law D s a → ((x : X) → D x → q x ≡ s x) → Law D q a
 told_spelling D s q a la same = record {
   takes = λ ts x e.
       let g = la.takes ts x e in
@@ -112,25 +112,25 @@ told_spelling D s q a la same = record {
 
 -- operands
 
-variable_law : Law Any (λ t. this is_variable t ∷ []) variable_at
+pub variable_law : Law Any (λ t. this is_variable t ∷ []) variable_at
 unfolding variable_at
 variable_law = token_law is_variable refl
 
-constant_law : Law Any (λ t. this is_constant t ∷ []) constant_at
+pub constant_law : Law Any (λ t. this is_constant t ∷ []) constant_at
 unfolding constant_at is_constant
 constant_law = token_law is_constant refl
 
-either_false : (a b : Bool) → a ≡ false → b ≡ false → (a || b) ≡ false
+pub either_false : (a b : Bool) → a ≡ false → b ≡ false → (a || b) ≡ false
 either_false a b e f = rw (e, f) refl
 
-both_true : (a b : Bool) → a ≡ true → b ≡ true → (a && b) ≡ true
+pub both_true : (a b : Bool) → a ≡ true → b ≡ true → (a && b) ≡ true
 both_true a b e f = rw (e, f) refl
 
-either_true : (a b : Bool) → a ≡ true → (a || b) ≡ true
+pub either_true : (a b : Bool) → a ≡ true → (a || b) ≡ true
 either_true a b e = rw e refl
 
 -- a constant is a name or a literal
-constant_not : (p : Class → Bool) (t : Token) → is_constant t ≡ true → p (classes.Sign signs.Name) ≡ false → p (classes.Sign signs.Literal) ≡ false → p t.class ≡ false
+pub constant_not : (p : Class → Bool) (t : Token) → is_constant t ≡ true → p (classes.Sign signs.Name) ≡ false → p (classes.Sign signs.Literal) ≡ false → p t.class ≡ false
 unfolding is_constant
 constant_not p t is no_name no_literal = chosen (is_sign signs.Name t) refl
   where
@@ -139,7 +139,7 @@ constant_not p t is no_name no_literal = chosen (is_sign signs.Name t) refl
     chosen false e = sign_not p signs.Literal t (rw e at is) no_literal
 
 -- a constant is no variable
-constant_other : (t : Token) → is_constant t ≡ true → is_variable t ≡ false
+pub constant_other : (t : Token) → is_constant t ≡ true → is_variable t ≡ false
 unfolding is_constant
 constant_other t is = chosen (is_sign signs.Name t) refl
   where
@@ -147,22 +147,22 @@ constant_other t is = chosen (is_sign signs.Name t) refl
     chosen true e = let truth : is_truth t ≡ true = rw e at is in rw (e, truth) refl
     chosen false e = rw e refl
 
-other_name : (t : Token) → is_sign signs.Name t ≡ false → is_variable t ≡ false
+pub other_name : (t : Token) → is_sign signs.Name t ≡ false → is_variable t ≡ false
 other_name t is = rw is refl
 
-abbrev spelled_field : Option Token → List Part
+abbrev pub spelled_field : Option Token → List Part
 spelled_field None = ahead no_dot ∷ []
 spelled_field (Some f) = sign signs.Dot ∷ name f ∷ []
 
-abbrev spelled_inner_field : Option Token → List Part
+abbrev pub spelled_inner_field : Option Token → List Part
 spelled_inner_field None = ahead before_no_dot ∷ []
 spelled_inner_field (Some f) = breaks ∷ sign signs.Dot ∷ breaks ∷ name f ∷ []
 
-from_some : {X : Type 0} (o : Option X) → IsSome o → (x : X) × (Some x ≡ o) × Unit {0}
+pub from_some : {X : Type 0} (o : Option X) → IsSome o → (x : X) × (Some x ≡ o) × Unit {0}
 from_some None d = absurd d
 from_some (Some x) d = (x, refl, tt)
 
-field_law : Law Any spelled_field field_at
+pub field_law : Law Any spelled_field field_at
 unfolding field_at
 field_law = told_law (λ o. IsSome o ⊎ (None ≡ o)) Any spelled_field _
     (choice_law IsSome (λ o. None ≡ o) spelled_field (next_is signs.Dot) _ _
@@ -179,7 +179,7 @@ field_law = told_law (λ o. IsSome o ⊎ (None ≡ o)) Any spelled_field _
     begins_not None ts rest d h = no_front (next_is signs.Dot ts) h.0
     begins_not (Some f) ts rest d h = absurd cc
 
-inner_field_law : Law Any spelled_inner_field inner_field_at
+pub inner_field_law : Law Any spelled_inner_field inner_field_at
 unfolding inner_field_at
 inner_field_law = told_law (λ o. IsSome o ⊎ (None ≡ o)) Any spelled_inner_field _
     (choice_law IsSome (λ o. None ≡ o) spelled_inner_field before_dot _ _
@@ -196,28 +196,28 @@ inner_field_law = told_law (λ o. IsSome o ⊎ (None ≡ o)) Any spelled_inner_f
     begins_not None ts rest d h = no_front (before_dot ts) h.0
     begins_not (Some f) ts rest d h = absurd cc
 
-abbrev IsConstant : OperandText → Type 0
+abbrev pub IsConstant : OperandText → Type 0
 IsConstant (Constant t) = Unit {0}
 IsConstant x = ⊥
 
-abbrev IsDirect : OperandText → Type 0
+abbrev pub IsDirect : OperandText → Type 0
 IsDirect (Direct t) = Unit {0}
 IsDirect x = ⊥
 
-abbrev IsNamed : OperandText → Type 0
+abbrev pub IsNamed : OperandText → Type 0
 IsNamed (Named t) = Unit {0}
 IsNamed (Field t f) = Unit {0}
 IsNamed x = ⊥
 
-abbrev IsLone : OperandText → Type 0
+abbrev pub IsLone : OperandText → Type 0
 IsLone x = IsDirect x ⊎ IsConstant x
 
-abbrev spelled_lone : OperandText → List Part
+abbrev pub spelled_lone : OperandText → List Part
 spelled_lone (Constant t) = this is_constant t ∷ []
 spelled_lone (Direct t) = this (is_sign signs.Address) t ∷ []
 spelled_lone x = []
 
-lone_law : Law IsLone spelled_lone lone_at
+pub lone_law : Law IsLone spelled_lone lone_at
 unfolding lone_at
 lone_law = choice_law IsDirect IsConstant spelled_lone (next_is signs.Address) _ _
     (mapped_law Any IsDirect _ spelled_lone Direct _ (expect_law signs.Address) (λ x. refl) (λ x d. tt) a_direct)
@@ -249,13 +249,13 @@ lone_law = choice_law IsDirect IsConstant spelled_lone (next_is signs.Address) _
     begins_not (Field t f) ts rest d h = absurd d
 
 -- an operand whose field, if it has one, is spelled so
-abbrev spelled_by_field : (Option Token → List Part) → OperandText → List Part
+abbrev pub spelled_by_field : (Option Token → List Part) → OperandText → List Part
 spelled_by_field q (Constant t) = this is_constant t ∷ []
 spelled_by_field q (Direct t) = this (is_sign signs.Address) t ∷ []
 spelled_by_field q (Named t) = this is_variable t ∷ q None
 spelled_by_field q (Field t f) = this is_variable t ∷ q (Some f)
 
-by_field_law : (q : Option Token → List Part) (a : Reading (Option Token)) → Law Any q a → Law Any (spelled_by_field q) (choice next_is_variable (mapped named (pair variable_at a)) lone_at)
+pub by_field_law : (q : Option Token → List Part) (a : Reading (Option Token)) → Law Any q a → Law Any (spelled_by_field q) (choice next_is_variable (mapped named (pair variable_at a)) lone_at)
 by_field_law q a law = told_law (λ o. IsNamed o ⊎ IsLone o) Any (spelled_by_field q) _
     (choice_law IsNamed IsLone (spelled_by_field q) next_is_variable _ _
     (mapped_law (λ (x : Token × Option Token). Unit {0} × Unit {0}) IsNamed (λ x. this is_variable x.0 ∷ q x.1) (spelled_by_field q) named _ (pair_law Any Any _ q _ _ variable_law law) (λ x. same_named x.0 x.1) (λ x d. is_named x.0 x.1) from_named)
@@ -305,7 +305,7 @@ by_field_law q a law = told_law (λ o. IsNamed o ⊎ IsLone o) Any (spelled_by_f
     all (Named t) d = inl tt
     all (Field t f) d = inl tt
 
-operand_law : Law Any spelled_operand operand_at
+pub operand_law : Law Any spelled_operand operand_at
 unfolding operand_at
 operand_law = told_spelling Any (spelled_by_field spelled_field) spelled_operand _ (by_field_law spelled_field field_at field_law) (λ o d. same o)
   where
@@ -315,7 +315,7 @@ operand_law = told_spelling Any (spelled_by_field spelled_field) spelled_operand
     same (Named t) = refl
     same (Field t f) = refl
 
-inner_operand_law : Law Any spelled_inner_operand inner_operand_at
+pub inner_operand_law : Law Any spelled_inner_operand inner_operand_at
 unfolding inner_operand_at
 inner_operand_law = told_spelling Any (spelled_by_field spelled_inner_field) spelled_inner_operand _ (by_field_law spelled_inner_field inner_field_at inner_field_law) (λ o d. same o)
   where
@@ -326,7 +326,7 @@ inner_operand_law = told_spelling Any (spelled_by_field spelled_inner_field) spe
     same (Field t f) = refl
 
 -- an operand begins with a name, a literal or an address
-operand_not : (p : Class → Bool) (x : OperandText) (ts rest : List Token) → Spell (spelled_operand x) ts rest
+pub operand_not : (p : Class → Bool) (x : OperandText) (ts rest : List Token) → Spell (spelled_operand x) ts rest
     → p (classes.Sign signs.Name) ≡ false → p (classes.Sign signs.Literal) ≡ false → p (classes.Sign signs.Address) ≡ false → p (first ts).class ≡ false
 operand_not p (Constant t) ts rest h no_name no_literal no_address = constant_not p (first ts) (front_this is_constant t [] ts rest h) no_name no_literal
 operand_not p (Direct t) ts rest h no_name no_literal no_address = sign_not p signs.Address (first ts) (front_this (is_sign signs.Address) t [] ts rest h) no_address
@@ -334,14 +334,14 @@ operand_not p (Named t) ts rest h no_name no_literal no_address = sign_not p sig
 operand_not p (Field t f) ts rest h no_name no_literal no_address = sign_not p signs.Name (first ts) (and_left _ _ (front_this is_variable t (sign signs.Dot ∷ name f ∷ []) ts rest h)) no_name
 
 -- a line end, or the end of the text
-abbrev stops_line : Class → Bool
+abbrev pub stops_line : Class → Bool
 stops_line c = is_class_of signs.Break c || is_end_class c
 
-operand_no_stop : (x : OperandText) (ts rest : List Token) → Spell (spelled_operand x) ts rest → is_line_stop ts ≡ false
+pub operand_no_stop : (x : OperandText) (ts rest : List Token) → Spell (spelled_operand x) ts rest → is_line_stop ts ≡ false
 operand_no_stop x ts rest h = operand_not stops_line x ts rest h refl refl refl
 
 -- nothing, or something before the end of the line
-optional_operand_law : Law Any spelled_optional optional_operand_at
+pub optional_operand_law : Law Any spelled_optional optional_operand_at
 unfolding optional_operand_at
 optional_operand_law = told_law (λ o. (None ≡ o) ⊎ IsSome o) Any spelled_optional _
     (choice_law (λ o. None ≡ o) IsSome spelled_optional is_line_stop _ _
@@ -362,21 +362,21 @@ optional_operand_law = told_law (λ o. (None ≡ o) ⊎ IsSome o) Any spelled_op
     all None d = inl refl
     all (Some x) d = inr tt
 
-nested_law : Law Any (λ o. sign signs.Open ∷ spelled_optional o) nested_at
+pub nested_law : Law Any (λ o. sign signs.Open ∷ spelled_optional o) nested_at
 unfolding nested_at
 nested_law = led_law Any (sign signs.Open ∷ []) spelled_optional _ _ (mark_expect_law signs.Open) optional_operand_law
 
 -- calls
 
-abbrev IsOutput : Side → Type 0
+abbrev pub IsOutput : Side → Type 0
 IsOutput sides.Output = Unit {0}
 IsOutput sides.Input = ⊥
 
-abbrev IsInput : Side → Type 0
+abbrev pub IsInput : Side → Type 0
 IsInput sides.Input = Unit {0}
 IsInput sides.Output = ⊥
 
-side_law : Law Any spelled_side side_at
+pub side_law : Law Any spelled_side side_at
 unfolding side_at
 side_law = told_law (λ x. IsOutput x ⊎ IsInput x) Any spelled_side _
     (choice_law IsOutput IsInput spelled_side (next_is signs.Arrow) _ _
@@ -405,31 +405,31 @@ side_law = told_law (λ x. IsOutput x ⊎ IsInput x) Any spelled_side _
     all sides.Output d = inl tt
     all sides.Input d = inr tt
 
-argument_law : Law Any spelled_argument argument_at
+pub argument_law : Law Any spelled_argument argument_at
 unfolding argument_at
 argument_law = mapped_law _ Any _ spelled_argument an_argument _
     (pair_law Any _ _ _ _ _ (past_law Any _ _ (expect_law signs.Name)) (pair_law Any Any _ _ _ _ (past_law Any _ _ side_law) (past_law Any _ _ inner_operand_law)))
     (λ x. refl) (λ x d. tt) (λ a d. (both a.field (both a.side a.operand), refl, both tt (both tt tt)))
 
-next_argument_law : Law Any spelled_next next_argument_at
+pub next_argument_law : Law Any spelled_next next_argument_at
 unfolding next_argument_at
 next_argument_law = led_law Any (breaks ∷ sign signs.Comma ∷ []) spelled_argument _ _ (past_law Any _ _ (mark_expect_law signs.Comma)) argument_law
 
-next_goes : (a : ArgumentText) (ts rest : List Token) → Spell (spelled_next a) ts rest → ends_arguments ts ≡ false
+pub next_goes : (a : ArgumentText) (ts rest : List Token) → Spell (spelled_next a) ts rest → ends_arguments ts ≡ false
 unfolding ends_arguments
 next_goes a ts rest h = rw (front (is_sign signs.Comma) (spelled_argument a) (skip_breaks ts) rest h) refl
 
-next_counts : (a : ArgumentText) → 0 < count (spelled_next a)
+pub next_counts : (a : ArgumentText) → 0 < count (spelled_next a)
 next_counts a = omega arith
 
-abbrev IsEmpty : List ArgumentText → Type 0
+abbrev pub IsEmpty : List ArgumentText → Type 0
 IsEmpty xs = [] ≡ xs
 
-abbrev IsSeveral : List ArgumentText → Type 0
+abbrev pub IsSeveral : List ArgumentText → Type 0
 IsSeveral [] = ⊥
 IsSeveral (a ∷ more) = Unit {0}
 
-inside_law : Law Any spelled_inside inside_at
+pub inside_law : Law Any spelled_inside inside_at
 unfolding inside_at
 inside_law = told_law (λ xs. IsEmpty xs ⊎ IsSeveral xs) Any spelled_inside _
     (choice_law IsEmpty IsSeveral spelled_inside before_close _ _
@@ -458,7 +458,7 @@ inside_law = told_law (λ xs. IsEmpty xs ⊎ IsSeveral xs) Any spelled_inside _
     all [] d = inl refl
     all (a ∷ more) d = inr tt
 
-arguments_law : Law Any spelled_arguments arguments_at
+pub arguments_law : Law Any spelled_arguments arguments_at
 unfolding arguments_at
 arguments_law = told_law (λ o. IsSome o ⊎ (None ≡ o)) Any spelled_arguments _
     (choice_law IsSome (λ o. None ≡ o) spelled_arguments (next_is signs.Open) _ _
@@ -477,7 +477,7 @@ arguments_law = told_law (λ o. IsSome o ⊎ (None ≡ o)) Any spelled_arguments
     begins_not None ts rest d h = no_front (next_is signs.Open ts) h.0
     begins_not (Some xs) ts rest d h = absurd cc
 
-call_law : Law Any spelled_call call_at
+pub call_law : Law Any spelled_call call_at
 unfolding call_at
 call_law = mapped_law _ Any _ spelled_call a_call _
     (pair_law Any Any _ _ _ _ (expect_law signs.Name) arguments_law)
@@ -485,18 +485,18 @@ call_law = mapped_law _ Any _ spelled_call a_call _
 
 -- behind an operator
 
-abbrev Accepted : Form → BehindText → Type 0
+abbrev pub Accepted : Form → BehindText → Type 0
 Accepted form b = accepts form b ≡ true
 
-abbrev IsGiven : BehindText → Type 0
+abbrev pub IsGiven : BehindText → Type 0
 IsGiven (Given x) = Unit {0}
 IsGiven b = ⊥
 
-abbrev IsOpened : BehindText → Type 0
+abbrev pub IsOpened : BehindText → Type 0
 IsOpened (Opened o) = Unit {0}
 IsOpened b = ⊥
 
-given_law : (form : Form) → ((x : OperandText) → Accepted form (Given x)) → Law (λ b. Accepted form b × IsGiven b) spelled_behind (mapped Given operand_at)
+pub given_law : (form : Form) → ((x : OperandText) → Accepted form (Given x)) → Law (λ b. Accepted form b × IsGiven b) spelled_behind (mapped Given operand_at)
 given_law form takes = mapped_law Any (λ b. Accepted form b × IsGiven b) spelled_operand spelled_behind Given _ operand_law (λ x. refl) (λ x d. (takes x, tt)) from
   where
     from : (b : BehindText) → Accepted form b × IsGiven b → (x : OperandText) × (Given x ≡ b) × Unit {0}
@@ -506,7 +506,7 @@ given_law form takes = mapped_law Any (λ b. Accepted form b × IsGiven b) spell
     from (Opened o) d = absurd d.1
     from (Called c) d = absurd d.1
 
-operand_behind : Law (Accepted forms.Operand) spelled_behind (mapped Given operand_at)
+pub operand_behind : Law (Accepted forms.Operand) spelled_behind (mapped Given operand_at)
 operand_behind = told_law (λ b. Accepted forms.Operand b × IsGiven b) (Accepted forms.Operand) spelled_behind _ (given_law forms.Operand (λ x. refl)) (λ b d. d.0) all
   where
     all : (b : BehindText) → Accepted forms.Operand b → Accepted forms.Operand b × IsGiven b
@@ -516,7 +516,7 @@ operand_behind = told_law (λ b. Accepted forms.Operand b × IsGiven b) (Accepte
     all (Opened o) d = absurd cc
     all (Called c) d = absurd cc
 
-opened_law : Law (λ b. Accepted forms.Either b × IsOpened b) spelled_behind (mapped Opened nested_at)
+pub opened_law : Law (λ b. Accepted forms.Either b × IsOpened b) spelled_behind (mapped Opened nested_at)
 opened_law = mapped_law Any (λ b. Accepted forms.Either b × IsOpened b) (λ o. sign signs.Open ∷ spelled_optional o) spelled_behind Opened _ nested_law (λ x. refl) (λ x d. (refl, tt)) from
   where
     from : (b : BehindText) → Accepted forms.Either b × IsOpened b → (x : Option OperandText) × (Opened x ≡ b) × Unit {0}
@@ -526,7 +526,7 @@ opened_law = mapped_law Any (λ b. Accepted forms.Either b × IsOpened b) (λ o.
     from (Given x) d = absurd d.1
     from (Called c) d = absurd d.1
 
-either_behind : Law (Accepted forms.Either) spelled_behind either_at
+pub either_behind : Law (Accepted forms.Either) spelled_behind either_at
 unfolding either_at
 either_behind = told_law (λ b. (Accepted forms.Either b × IsOpened b) ⊎ (Accepted forms.Either b × IsGiven b)) (Accepted forms.Either) spelled_behind _
     (choice_law (λ b. Accepted forms.Either b × IsOpened b) (λ b. Accepted forms.Either b × IsGiven b) spelled_behind (next_is signs.Open) _ _ opened_law (given_law forms.Either (λ x. refl)) begins begins_not)
@@ -557,7 +557,7 @@ either_behind = told_law (λ b. (Accepted forms.Either b × IsOpened b) ⊎ (Acc
     all (Target t) d = absurd cc
     all (Called c) d = absurd cc
 
-label_behind : Law (Accepted forms.Label) spelled_behind (mapped Target (expect signs.Name))
+pub label_behind : Law (Accepted forms.Label) spelled_behind (mapped Target (expect signs.Name))
 label_behind = mapped_law Any (Accepted forms.Label) _ spelled_behind Target _ (expect_law signs.Name) (λ x. refl) (λ x d. refl) from
   where
     from : (b : BehindText) → Accepted forms.Label b → (x : Token) × (Target x ≡ b) × Unit {0}
@@ -567,10 +567,10 @@ label_behind = mapped_law Any (Accepted forms.Label) _ spelled_behind Target _ (
     from (Opened o) d = absurd cc
     from (Called c) d = absurd cc
 
-abbrev done : BehindText × List Token → Result (BehindText × List Token) FaultAt
+abbrev pub done : BehindText × List Token → Result (BehindText × List Token) FaultAt
 done x = Ok x
 
-call_behind : Law (Accepted forms.Call) spelled_behind (mapped Called call_at)
+pub call_behind : Law (Accepted forms.Call) spelled_behind (mapped Called call_at)
 call_behind = mapped_law Any (Accepted forms.Call) spelled_call spelled_behind Called _ call_law (λ x. refl) (λ x d. refl) from
   where
     from : (b : BehindText) → Accepted forms.Call b → (c : CallText) × (Called c ≡ b) × Unit {0}
@@ -580,7 +580,7 @@ call_behind = mapped_law Any (Accepted forms.Call) spelled_call spelled_behind C
     from (Target t) d = absurd (false_true d)
     from (Opened o) d = absurd (false_true d)
 
-nothing_behind : Law (Accepted forms.Nothing) spelled_behind (λ ts. done (Nothing, ts))
+pub nothing_behind : Law (Accepted forms.Nothing) spelled_behind (λ ts. done (Nothing, ts))
 nothing_behind = record { takes = takes; again = again }
   where
     takes : (ts : List Token) (x : BehindText × List Token) → done (Nothing, ts) ≡ done x → Accepted forms.Nothing x.0 × Spell (spelled_behind x.0) ts x.1
@@ -593,7 +593,7 @@ nothing_behind = record { takes = takes; again = again }
     again (Opened o) ts rest d h = absurd cc
     again (Called c) ts rest d h = absurd cc
 
-behind_law : (form : Form) → Law (Accepted form) spelled_behind (behind_at form)
+pub behind_law : (form : Form) → Law (Accepted form) spelled_behind (behind_at form)
 unfolding behind_at
 behind_law forms.Operand = operand_behind
 behind_law forms.Label = label_behind
@@ -603,17 +603,17 @@ behind_law forms.Call = call_behind
 
 -- operations
 
-operator_law : (dialect : Dialect) → Law Any (λ x. operator (operator_of dialect) x ∷ []) (operator_at dialect)
+pub operator_law : (dialect : Dialect) → Law Any (λ x. operator (operator_of dialect) x ∷ []) (operator_at dialect)
 unfolding operator_at operator_of
 operator_law dialect = meaning_law (operator_of dialect) refl
 
-abbrev some_operator : Operator → Option Operator
+abbrev pub some_operator : Operator → Option Operator
 some_operator x = Some x
 
-operator_is : (x y : Operator) → some_operator x ≡ some_operator y → x ≡ y
+pub operator_is : (x y : Operator) → some_operator x ≡ some_operator y → x ≡ y
 operator_is x y e = cc
 
-accepted_is : (b : BehindText) (o : Option Operator) (x : Operator) → accepting b o ≡ Some x → (o ≡ Some x) × (accepts (form_of x.mnemonic.op) b ≡ true)
+pub accepted_is : (b : BehindText) (o : Option Operator) (x : Operator) → accepting b o ≡ Some x → (o ≡ Some x) × (accepts (form_of x.mnemonic.op) b ≡ true)
 accepted_is b None x e = absurd cc
 accepted_is b (Some y) x e = chosen (accepts (form_of y.mnemonic.op) b) refl e
   where
@@ -621,15 +621,15 @@ accepted_is b (Some y) x e = chosen (accepts (form_of y.mnemonic.op) b) refl e
     chosen true is h = (h, subst (λ (z : Operator). accepts (form_of z.mnemonic.op) b ≡ true) (operator_is y x h) is)
     chosen false is h = absurd cc
 
-abbrev made : Operator → BehindText → OperationText
+abbrev pub made : Operator → BehindText → OperationText
 made x b = record { operator = x; behind = b }
 
 -- the token that an operation begins with
-first_operator : (dialect : Dialect) → (o : OperationText) (ts rest : List Token) → Spell (spelled_operation dialect o) ts rest → operator_of dialect (first ts) ≡ Some o.operator
+pub first_operator : (dialect : Dialect) → (o : OperationText) (ts rest : List Token) → Spell (spelled_operation dialect o) ts rest → operator_of dialect (first ts) ≡ Some o.operator
 first_operator dialect o [] rest h = absurd h
 first_operator dialect o (t ∷ ts) rest h = (accepted_is o.behind (operator_of dialect t) o.operator h.0).0
 
-operation_law : (dialect : Dialect) → Law Any (spelled_operation dialect) (operation_at dialect)
+pub operation_law : (dialect : Dialect) → Law Any (spelled_operation dialect) (operation_at dialect)
 unfolding operation_at
 operation_law dialect = record { takes = takes; again = again }
   where
@@ -657,7 +657,7 @@ operation_law dialect = record { takes = takes; again = again }
         rw (f, g) refl
 
 -- an operator is no end of a line
-operator_no_stop : (dialect : Dialect) → (t : Token) (x : Operator) → operator_of dialect t ≡ Some x → stops_line t.class ≡ false
+pub operator_no_stop : (dialect : Dialect) → (t : Token) (x : Operator) → operator_of dialect t ≡ Some x → stops_line t.class ≡ false
 unfolding operator_of
 operator_no_stop dialect t x e = by_class t.class refl
   where
@@ -669,12 +669,12 @@ operator_no_stop dialect t x e = by_class t.class refl
     by_class (classes.Sign signs.Break) is = absurd (never (rw is refl))
     by_class c is = refl
 
-operation_no_stop : (dialect : Dialect) → (o : OperationText) (ts rest : List Token) → Spell (spelled_operation dialect o) ts rest → is_line_stop ts ≡ false
+pub operation_no_stop : (dialect : Dialect) → (o : OperationText) (ts rest : List Token) → Spell (spelled_operation dialect o) ts rest → is_line_stop ts ≡ false
 operation_no_stop dialect o ts rest h = operator_no_stop dialect (first ts) o.operator (first_operator dialect o ts rest h)
 
 -- lines
 
-optional_operation_law : (dialect : Dialect) → Law Any (spelled_optional_operation dialect) (optional_operation_at dialect)
+pub optional_operation_law : (dialect : Dialect) → Law Any (spelled_optional_operation dialect) (optional_operation_at dialect)
 unfolding optional_operation_at
 optional_operation_law dialect = told_law (λ o. (None ≡ o) ⊎ IsSome o) Any (spelled_optional_operation dialect) _
     (choice_law (λ o. None ≡ o) IsSome (spelled_optional_operation dialect) is_line_stop _ _
@@ -695,15 +695,15 @@ optional_operation_law dialect = told_law (λ o. (None ≡ o) ⊎ IsSome o) Any 
     all None d = inl refl
     all (Some x) d = inr tt
 
-abbrev IsLabelled : LineText → Type 0
+abbrev pub IsLabelled : LineText → Type 0
 IsLabelled (Labelled t o) = Unit {0}
 IsLabelled (Plain o) = ⊥
 
-abbrev IsPlain : LineText → Type 0
+abbrev pub IsPlain : LineText → Type 0
 IsPlain (Plain o) = Unit {0}
 IsPlain (Labelled t o) = ⊥
 
-labelled_law : (dialect : Dialect) → Law IsLabelled (spelled_content dialect) (labelled_at dialect)
+pub labelled_law : (dialect : Dialect) → Law IsLabelled (spelled_content dialect) (labelled_at dialect)
 unfolding labelled_at
 labelled_law dialect = mapped_law _ IsLabelled _ (spelled_content dialect) labelled _ (pair_law Any _ _ _ _ _ (expect_law signs.Name) (led_law Any _ _ _ _ (mark_expect_law signs.Colon) (optional_operation_law dialect))) (λ x. refl) (λ x d. tt) from
   where
@@ -711,11 +711,11 @@ labelled_law dialect = mapped_law _ IsLabelled _ (spelled_content dialect) label
     from (Labelled t o) d = (both t o, refl, both tt tt)
     from (Plain o) d = absurd d
 
-abbrev spelled_plain : (dialect : Dialect) → LineText → List Part
+abbrev pub spelled_plain : (dialect : Dialect) → LineText → List Part
 spelled_plain dialect (Plain o) = spelled_operation dialect o
 spelled_plain dialect l = []
 
-plain_law : (dialect : Dialect) → Law IsPlain (spelled_plain dialect) (plain_at dialect)
+pub plain_law : (dialect : Dialect) → Law IsPlain (spelled_plain dialect) (plain_at dialect)
 unfolding plain_at
 plain_law dialect = mapped_law Any IsPlain (spelled_operation dialect) (spelled_plain dialect) Plain _ (operation_law dialect) (λ x. refl) (λ x d. tt) from
   where
@@ -723,16 +723,16 @@ plain_law dialect = mapped_law Any IsPlain (spelled_operation dialect) (spelled_
     from (Plain o) d = (o, refl, tt)
     from (Labelled t o) d = absurd d
 
-label_begins : (dialect : Dialect) → (t : Token) (ps : List Part) (ts rest : List Token) → Spell (name t ∷ sign signs.Colon ∷ ps) ts rest → is_label dialect ts ≡ true
+pub label_begins : (dialect : Dialect) → (t : Token) (ps : List Part) (ts rest : List Token) → Spell (name t ∷ sign signs.Colon ∷ ps) ts rest → is_label dialect ts ≡ true
 unfolding is_label
 label_begins dialect t ps [] rest h = absurd h
 label_begins dialect t ps (u ∷ us) rest h = both_true _ _ h.0.0 (either_true _ _ (front (is_sign signs.Colon) ps us rest h.1))
 
 -- nothing is taken, where this stands next
-here_law : (p : List Token → Bool) → Law Any (λ (u : Unit {0}). ahead p ∷ []) (stand p tt)
+pub here_law : (p : List Token → Bool) → Law Any (λ (u : Unit {0}). ahead p ∷ []) (stand p tt)
 here_law p = told_law (λ u. tt ≡ u) Any _ _ (stand_law (λ u. ahead p ∷ []) p tt refl) (λ x d. tt) (λ x d. refl)
 
-content_law : (dialect : Dialect) → Law Any (spelled_content dialect) (either_line_at dialect)
+pub content_law : (dialect : Dialect) → Law Any (spelled_content dialect) (either_line_at dialect)
 unfolding either_line_at
 content_law dialect = told_law (λ l. IsLabelled l ⊎ IsPlain l) Any (spelled_content dialect) _
     (else_law IsLabelled IsPlain (spelled_content dialect) (spelled_plain dialect) (is_label dialect) _ _ (labelled_law dialect) (plain_law dialect) same begins)
@@ -750,44 +750,44 @@ content_law dialect = told_law (λ l. IsLabelled l ⊎ IsPlain l) Any (spelled_c
     all (Labelled t o) d = inl tt
     all (Plain o) d = inr tt
 
-line_law : (dialect : Dialect) → Law Any (spelled_line dialect) (line_at dialect)
+pub line_law : (dialect : Dialect) → Law Any (spelled_line dialect) (line_at dialect)
 unfolding line_at
 line_law dialect = closed_law Any (λ l. breaks ∷ spelled_content dialect l) (ahead is_line_stop ∷ []) _ _ (past_law Any (spelled_content dialect) _ (content_law dialect)) (here_law is_line_stop)
 
-line_counts : (dialect : Dialect) → (l : LineText) → 0 < count (spelled_line dialect l)
+pub line_counts : (dialect : Dialect) → (l : LineText) → 0 < count (spelled_line dialect l)
 line_counts dialect (Labelled t o) = omega arith
 line_counts dialect (Plain o) = omega arith
 
 -- declarations
 
-keyword_law : (w : List ℕ) → Law Any (λ (u : Unit {0}). word w ∷ []) (keyword w)
+pub keyword_law : (w : List ℕ) → Law Any (λ (u : Unit {0}). word w ∷ []) (keyword w)
 unfolding keyword
 keyword_law w = one_law (is_word_token w) refl
 
-name_law : Law Any spelled_name name_at
+pub name_law : Law Any spelled_name name_at
 unfolding name_at
 name_law = led_law Any (breaks ∷ sign signs.Comma ∷ []) (λ t. breaks ∷ name t ∷ []) _ _ (past_law Any _ _ (mark_expect_law signs.Comma)) (past_law Any _ _ (expect_law signs.Name))
 
-name_goes : (t : Token) (ts rest : List Token) → Spell (spelled_name t) ts rest → ends_names ts ≡ false
+pub name_goes : (t : Token) (ts rest : List Token) → Spell (spelled_name t) ts rest → ends_names ts ≡ false
 unfolding ends_names
 name_goes t ts rest h = rw (front (is_sign signs.Comma) (breaks ∷ name t ∷ []) (skip_breaks ts) rest h) refl
 
-name_counts : (t : Token) → 0 < count (spelled_name t)
+pub name_counts : (t : Token) → 0 < count (spelled_name t)
 name_counts t = omega arith
 
-abbrev IsLocated : NamesText → Type 0
+abbrev pub IsLocated : NamesText → Type 0
 IsLocated (Located t) = Unit {0}
 IsLocated (More ts) = ⊥
 
-abbrev IsMore : NamesText → Type 0
+abbrev pub IsMore : NamesText → Type 0
 IsMore (More ts) = Unit {0}
 IsMore (Located t) = ⊥
 
-abbrev spelled_more : NamesText → List Part
+abbrev pub spelled_more : NamesText → List Part
 spelled_more (More ts) = flat_map spelled_name ts ++ ahead ends_names ∷ []
 spelled_more (Located t) = []
 
-names_law : Law Any spelled_names names_at
+pub names_law : Law Any spelled_names names_at
 unfolding names_at
 names_law = told_law (λ (x : NamesText). IsLocated x ⊎ IsMore x) Any spelled_names _
     (else_law IsLocated IsMore spelled_names spelled_more (next_is_word (codes "AT")) _ _
@@ -816,7 +816,7 @@ names_law = told_law (λ (x : NamesText). IsLocated x ⊎ IsMore x) Any spelled_
     all (Located t) d = inl tt
     all (More ts) d = inr tt
 
-initial_law : Law Any spelled_initial initial_at
+pub initial_law : Law Any spelled_initial initial_at
 unfolding initial_at
 initial_law = told_law (λ o. IsSome o ⊎ (None ≡ o)) Any spelled_initial _
     (choice_law IsSome (λ o. None ≡ o) spelled_initial (next_is signs.Assign) _ _
@@ -833,7 +833,7 @@ initial_law = told_law (λ o. IsSome o ⊎ (None ≡ o)) Any spelled_initial _
     begins_not None ts rest d h = no_front (next_is signs.Assign ts) h.0
     begins_not (Some f) ts rest d h = absurd cc
 
-declaration_law : Law Any spelled_declaration declaration_at
+pub declaration_law : Law Any spelled_declaration declaration_at
 unfolding declaration_at
 declaration_law = mapped_law _ Any _ spelled_declaration declared _
     (pair_law Any _ _ _ _ _ (past_law Any _ _ (expect_law signs.Name))
@@ -843,27 +843,27 @@ declaration_law = mapped_law _ Any _ spelled_declaration declared _
     (λ x. refl) (λ x d. tt)
     (λ d fits. (both d.name (both d.names (both d.ty d.initial)), refl, both tt (both tt (both tt tt))))
 
-declaration_counts : (d : DeclarationText) → 0 < count (spelled_declaration d)
+pub declaration_counts : (d : DeclarationText) → 0 < count (spelled_declaration d)
 declaration_counts d = omega arith
 
 -- the two words begin with other letters
-words_apart : (w : List ℕ) → spells (codes "NON_RETAIN") w ≡ true → spells (codes "RETAIN") w ≡ false
+pub words_apart : (w : List ℕ) → spells (codes "NON_RETAIN") w ≡ true → spells (codes "RETAIN") w ≡ false
 unfolding spells
 words_apart [] e = refl
 words_apart (b ∷ bs) e = let v : upper b ≡ 78 = eqb-true (upper b) 78 (and_left (eqb (upper b) 78) _ e) in rw v refl
 
-not_retain : (t : Token) → is_word_token (codes "NON_RETAIN") t ≡ true → is_word_token (codes "RETAIN") t ≡ false
+pub not_retain : (t : Token) → is_word_token (codes "NON_RETAIN") t ≡ true → is_word_token (codes "RETAIN") t ≡ false
 not_retain t is =
     let other = words_apart t.text (and_right (is_sign signs.Name t) (spells (codes "NON_RETAIN") t.text) is) in
     rw (and_left (is_sign signs.Name t) _ is, other) refl
 
-this_law : (q : Qualifier) → Law Any (λ (x : Unit {0}). word (qualifier_word q) ∷ []) (keyword (qualifier_word q))
+pub this_law : (q : Qualifier) → Law Any (λ (x : Unit {0}). word (qualifier_word q) ∷ []) (keyword (qualifier_word q))
 this_law q = keyword_law (qualifier_word q)
 
-abbrev spelled_either : Qualifier → List Part
+abbrev pub spelled_either : Qualifier → List Part
 spelled_either q = word (qualifier_word q) ∷ []
 
-either_qualifier_law : Law Any spelled_either either_qualifier_at
+pub either_qualifier_law : Law Any spelled_either either_qualifier_at
 unfolding either_qualifier_at
 either_qualifier_law = told_law (λ q. (qualifiers.Retain ≡ q) ⊎ (qualifiers.NonRetain ≡ q)) Any spelled_either _
     (choice_law (λ q. qualifiers.Retain ≡ q) (λ q. qualifiers.NonRetain ≡ q) spelled_either (next_is_word (qualifier_word qualifiers.Retain)) _ _
@@ -885,11 +885,11 @@ either_qualifier_law = told_law (λ q. (qualifiers.Retain ≡ q) ⊎ (qualifiers
     all qualifiers.NonRetain d = inr refl
 
 -- behind the test, where there is one
-abbrev spelled_some : Option Qualifier → List Part
+abbrev pub spelled_some : Option Qualifier → List Part
 spelled_some None = []
 spelled_some (Some q) = spelled_either q
 
-qualifier_law : (dialect : Dialect) → Law Any (spelled_qualifier dialect) (qualifier_at dialect)
+pub qualifier_law : (dialect : Dialect) → Law Any (spelled_qualifier dialect) (qualifier_at dialect)
 unfolding qualifier_at
 qualifier_law dialect = told_law (λ o. (None ≡ o) ⊎ IsSome o) Any (spelled_qualifier dialect) _
     (else_law (λ o. None ≡ o) IsSome (spelled_qualifier dialect) spelled_some (no_qualifier dialect) _ _
@@ -898,7 +898,7 @@ qualifier_law dialect = told_law (λ o. (None ≡ o) ⊎ IsSome o) Any (spelled_
     same begins)
     (λ x d. tt) all
   where
-    same : (o : Option Qualifier) → IsSome o → spelled_qualifier dialect o ≡ ahead (is_qualifier dialect) ∷ spelled_some o
+    same : (o : Option Qualifier) → IsSome o → spelled_qualifier dialect o ≡ ahead (reads_as_qualifier dialect) ∷ spelled_some o
     same (Some q) d = refl
     same None d = absurd d
 
@@ -910,11 +910,11 @@ qualifier_law dialect = told_law (λ o. (None ≡ o) ⊎ IsSome o) Any (spelled_
     all None d = inl refl
     all (Some q) d = inr tt
 
-abbrev spelled_inside_block : Dialect → BlockText → List Part
+abbrev pub spelled_inside_block : Dialect → BlockText → List Part
 spelled_inside_block dialect b = breaks ∷ (spelled_qualifier dialect b.qualifier ++ (listed ends_block spelled_declaration b.declarations ++ breaks ∷ word (codes "END_VAR") ∷ []))
 
-block_law : (dialect : Dialect) → Law Any (spelled_block dialect) (block_at dialect)
-unfolding block_at
+pub block_law : (dialect : Dialect) → Law Any (spelled_block dialect) (block_at dialect)
+unfolding block_at declared_at
 block_law dialect = led_law Any (breaks ∷ word (block_word dialect) ∷ []) (spelled_inside_block dialect) _ _
     (past_law Any _ _ (keyword_law (block_word dialect)))
     (mapped_law _ Any _ (spelled_inside_block dialect) blocked _
@@ -923,7 +923,7 @@ block_law dialect = led_law Any (breaks ∷ word (block_word dialect) ∷ []) (s
     (λ x. refl) (λ x d. tt)
     (λ b fits. (both b.qualifier b.declarations, refl, both tt tt)))
 
-block_counts : (dialect : Dialect) → (b : BlockText) → 0 < count (spelled_block dialect b)
+pub block_counts : (dialect : Dialect) → (b : BlockText) → 0 < count (spelled_block dialect b)
 block_counts dialect b = omega arith
 
 -- what each thing of a list takes
@@ -945,32 +945,32 @@ block_shrinks dialect = law_shrinks (spelled_block dialect) (block_at dialect) (
 
 -- programs
 
-end_law : Law Any (λ (u : Unit {0}). ahead at_end ∷ []) end_at
+pub end_law : Law Any (λ (u : Unit {0}). ahead at_end ∷ []) end_at
 unfolding end_at
 end_law = here_law at_end
 
-finish_law : Law Any (λ (u : Unit {0}). breaks ∷ word (codes "END_PROGRAM") ∷ breaks ∷ ahead at_end ∷ []) finish_at
+pub finish_law : Law Any (λ (u : Unit {0}). breaks ∷ word (codes "END_PROGRAM") ∷ breaks ∷ ahead at_end ∷ []) finish_at
 unfolding finish_at
 finish_law = led_law Any (breaks ∷ word (codes "END_PROGRAM") ∷ []) (λ u. breaks ∷ ahead at_end ∷ []) _ _ (past_law Any _ _ (keyword_law (codes "END_PROGRAM"))) (past_law Any _ _ end_law)
 
-abbrev IsNamedProgram : ProgramText → Type 0
+abbrev pub IsNamedProgram : ProgramText → Type 0
 IsNamedProgram s = IsSome s.name
 
-abbrev IsBareProgram : ProgramText → Type 0
+abbrev pub IsBareProgram : ProgramText → Type 0
 IsBareProgram s = None ≡ s.name
 
 -- a name, and what follows it in a program
-abbrev spelled_by_title : (dialect : Dialect) → Option Token → ProgramText → List Part
+abbrev pub spelled_by_title : (dialect : Dialect) → Option Token → ProgramText → List Part
 spelled_by_title dialect None s = []
 spelled_by_title dialect (Some t) s = name t ∷ (listed (ends_blocks dialect) (spelled_block dialect) s.blocks ++ (listed ends_named (spelled_line dialect) s.lines ++ breaks ∷ word (codes "END_PROGRAM") ∷ breaks ∷ ahead at_end ∷ []))
 
-abbrev spelled_titled : (dialect : Dialect) → ProgramText → List Part
+abbrev pub spelled_titled : (dialect : Dialect) → ProgramText → List Part
 spelled_titled dialect s = spelled_by_title dialect s.name s
 
-abbrev titled_at : (dialect : Dialect) → Reading ProgramText
+abbrev pub titled_at : (dialect : Dialect) → Reading ProgramText
 titled_at dialect ts = mapped named_program (pair (expect signs.Name) (pair (many (ends_blocks dialect) (block_at dialect)) (closed (many ends_named (line_at dialect)) finish_at))) ts
 
-titled_law : (dialect : Dialect) → Law IsNamedProgram (spelled_titled dialect) (titled_at dialect)
+pub titled_law : (dialect : Dialect) → Law IsNamedProgram (spelled_titled dialect) (titled_at dialect)
 titled_law dialect = mapped_law _ IsNamedProgram _ (spelled_titled dialect) named_program _
     (pair_law Any _ _ _ _ _ (expect_law signs.Name)
     (pair_law Any Any _ _ _ _ (until_law (spelled_block dialect) (ends_blocks dialect) (block_at dialect) (block_law dialect) (block_counts dialect))
@@ -985,7 +985,7 @@ titled_law dialect = mapped_law _ IsNamedProgram _ (spelled_titled dialect) name
         made : Option Token → ProgramText
         made o = record { name = o; blocks = s.blocks; lines = s.lines }
 
-named_law : (dialect : Dialect) → Law IsNamedProgram (spelled_program dialect) (named_at dialect)
+pub named_law : (dialect : Dialect) → Law IsNamedProgram (spelled_program dialect) (named_at dialect)
 unfolding named_at
 named_law dialect = told_spelling IsNamedProgram (λ s. breaks ∷ word (codes "PROGRAM") ∷ spelled_titled dialect s) (spelled_program dialect) _
     (led_law IsNamedProgram (breaks ∷ word (codes "PROGRAM") ∷ []) (spelled_titled dialect) _ _ (past_law Any _ _ (keyword_law (codes "PROGRAM"))) (titled_law dialect)) (λ s d. same s s.name d)
@@ -994,10 +994,10 @@ named_law dialect = told_spelling IsNamedProgram (λ s. breaks ∷ word (codes "
     same s None d = absurd d
     same s (Some t) d = refl
 
-abbrev spelled_rest : (dialect : Dialect) → ProgramText → List Part
+abbrev pub spelled_rest : (dialect : Dialect) → ProgramText → List Part
 spelled_rest dialect s = spelled_bare dialect s
 
-bare_law : (dialect : Dialect) → Law IsBareProgram (spelled_rest dialect) (bare_at dialect)
+pub bare_law : (dialect : Dialect) → Law IsBareProgram (spelled_rest dialect) (bare_at dialect)
 unfolding bare_at
 bare_law dialect = mapped_law _ IsBareProgram _ (spelled_rest dialect) bare_program _
     (pair_law Any Any _ _ _ _ (until_law (spelled_block dialect) (ends_blocks dialect) (block_at dialect) (block_law dialect) (block_counts dialect))

@@ -1,12 +1,13 @@
 -- A text has one source at most.
-use Rattle.std.proofs.Common.{◌≡◌, ℕ, List, Result, Ok, Err, sym, ap, subst, ◌∙◌}
+use Rattle.std.proofs.Common.{◌≡◌, ℕ, ◌≤◌, List, Result, Ok, Err, sym, ap, subst, ◌∙◌, arith}
 use Rattle.il_model.specs.declared.dialect.Dialect.{Dialect}
+use Rattle.il_model.specs.declared.dialect.Dialect.TheVariants as dialects
 use Rattle.il_reader.specs.declared.fault.FaultAt.{FaultAt}
 use Rattle.il_reader.specs.declared.fault.Fault.{Fault}
 use Rattle.il_reader.specs.Grammar.{dialect_of, ProgramText}
 use Rattle.il_reader.specs.Walk.{text_of}
 use Rattle.il_reader.specs.Spelling.{Says}
-use Rattle.il_reader.specs.Texts.{SourceText, Reads}
+use Rattle.il_reader.specs.Texts.{SourceText, Reads, text_limit}
 
 abbrev read_as : ProgramText → Result ProgramText FaultAt
 read_as p = Ok p
@@ -33,3 +34,8 @@ same_source bytes dialect p s r a b =
 pub one_outcome : (read : Result ProgramText FaultAt) (p : ProgramText) (f : FaultAt) → read ≡ Ok p → read ≡ Err f → ⊥
 one_outcome (Ok q) p f a b = absurd cc
 one_outcome (Err g) p f a b = absurd cc
+
+-- every text's bytes can be counted in 32 bits
+pub limit_small : (dialect : Dialect) → text_limit dialect ≤ 8388608
+limit_small dialects.Plain = omega arith
+limit_small dialects.Extended = omega arith

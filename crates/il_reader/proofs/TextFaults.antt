@@ -6,7 +6,6 @@ use Rattle.std.proofs.lemmas.List.{append-nil}
 use Rattle.std.proofs.lemmas.Bool.{le-ltb, lt-ltb, ltb-true, ltb-false}
 use Rattle.il_model.specs.declared.dialect.Dialect.{Dialect}
 use Rattle.il_reader.specs.declared.fault.FaultAt.{FaultAt}
-use Rattle.il_reader.specs.declared.source.TheConstants.{TEXT_LIMIT}
 use Rattle.il_reader.specs.declared.fault.Fault.{Fault}
 use Rattle.il_reader.specs.declared.fault.ReadError.{ReadError}
 use Rattle.il_reader.specs.declared.fault.ReadError.TheVariants as errors
@@ -18,7 +17,7 @@ use Rattle.il_reader.specs.Reading.{◌>>=◌}
 use Rattle.il_reader.specs.Grammar.{dialect_of, ProgramText}
 use Rattle.il_reader.specs.Walk.{text_of, program_at, told, source_of}
 use Rattle.il_reader.specs.Spelling.{Spell, spelled_program}
-use Rattle.il_reader.specs.Texts.{SourceText, IsSource, Reads, placed, too_long, Answers}
+use Rattle.il_reader.specs.Texts.{SourceText, IsSource, Reads, placed, too_long, text_limit, Answers}
 use Rattle.il_reader.specs.FirstFault.{Begins, IsCompleted, StandsAt, IsTextFault, IsSourceFault, IsFaultOf, TellsFirst}
 use Rattle.il_reader.proofs.Laws.{bind_ok}
 use Rattle.il_reader.proofs.Programs.{program_law}
@@ -124,21 +123,21 @@ told_fault : (bytes : List ℕ) (r : Result ProgramText FaultAt) (g : Fault) →
 told_fault bytes (Ok p) g e = absurd cc
 told_fault bytes (Err f) g e = (f, sym (same_fault (placed bytes f) g e), refl)
 
-source_fault : (bytes : List ℕ) (g : Fault) → nat_lt TEXT_LIMIT (length bytes) ≡ false → source_of bytes ≡ Err g → IsSourceFault bytes g
+source_fault : (bytes : List ℕ) (g : Fault) → nat_lt (text_limit (dialect_of bytes)) (length bytes) ≡ false → source_of bytes ≡ Err g → IsSourceFault bytes g
 source_fault bytes g fits e = let t = told_fault bytes (text_of (dialect_of bytes) bytes) g (rw fits at e) in (t.0, t.1, stands (dialect_of bytes) bytes t.0 t.2)
 
 -- ---- the fault of a text, be it too long or not
 
 pub is_fault : (bytes : List ℕ) (g : Fault) → source_of bytes ≡ Err g → IsFaultOf bytes g
-is_fault bytes g e = by_length (nat_lt TEXT_LIMIT (length bytes)) refl
+is_fault bytes g e = by_length (nat_lt (text_limit (dialect_of bytes)) (length bytes)) refl
   where
-    by_length : (b : Bool) → nat_lt TEXT_LIMIT (length bytes) ≡ b → IsFaultOf bytes g
-    by_length true over = inl (ltb-true TEXT_LIMIT (length bytes) over, sym (same_fault too_long g (rw over at e)))
-    by_length false fits = inr (ltb-false TEXT_LIMIT (length bytes) fits, source_fault bytes g fits e)
+    by_length : (b : Bool) → nat_lt (text_limit (dialect_of bytes)) (length bytes) ≡ b → IsFaultOf bytes g
+    by_length true over = inl (ltb-true (text_limit (dialect_of bytes)) (length bytes) over, sym (same_fault too_long g (rw over at e)))
+    by_length false fits = inr (ltb-false (text_limit (dialect_of bytes)) (length bytes) fits, source_fault bytes g fits e)
 
 pub fault_told : (bytes : List ℕ) (g : Fault) → IsFaultOf bytes g → source_of bytes ≡ Err g
-fault_told bytes g (inl h) = rw (lt-ltb TEXT_LIMIT (length bytes) h.0) (ap as_refused (sym h.1))
-fault_told bytes g (inr h) = rw (le-ltb TEXT_LIMIT (length bytes) h.0) (rw (refuses (dialect_of bytes) bytes h.1.0 h.1.2) (ap as_refused (sym h.1.1)))
+fault_told bytes g (inl h) = rw (lt-ltb (text_limit (dialect_of bytes)) (length bytes) h.0) (ap as_refused (sym h.1))
+fault_told bytes g (inr h) = rw (le-ltb (text_limit (dialect_of bytes)) (length bytes) h.0) (rw (refuses (dialect_of bytes) bytes h.1.0 h.1.2) (ap as_refused (sym h.1.1)))
 
 -- what is answered so is told by the fault of the text alone
 pub tells_first : (bytes : List ℕ) (r : Result SourceText ReadError) → Answers {X = SourceText} (λ s. s) r (source_of bytes) → TellsFirst bytes r
@@ -158,7 +157,7 @@ differs : (s : SourceText) (g : Fault) → as_read s ≡ as_refused g → ⊥
 differs s g e = cc
 
 source_read : (s : SourceText) → IsSource s → source_of s.text ≡ Ok s
-source_read s is = rw (le-ltb TEXT_LIMIT (length s.text) is.short) (rw (is_read (dialect_of s.text) s.text s.says is.said) refl)
+source_read s is = rw (le-ltb (text_limit (dialect_of s.text)) (length s.text) is.short) (rw (is_read (dialect_of s.text) s.text s.says is.said) refl)
 
 -- what the text says is what the walk gives
 read_is : (bytes : List ℕ) (s : SourceText) → Reads bytes s → source_of bytes ≡ Ok s
@@ -171,16 +170,16 @@ told_read : (bytes : List ℕ) (r : Result ProgramText FaultAt) (s : SourceText)
 told_read bytes (Ok p) s e = (p, same_read (made bytes p) s e, refl)
 told_read bytes (Err f) s e = absurd (differs s (placed bytes f) (sym e))
 
-reads_here : (bytes : List ℕ) (s : SourceText) (p : ProgramText) → nat_lt TEXT_LIMIT (length bytes) ≡ false → made bytes p ≡ s → text_of (dialect_of bytes) bytes ≡ Ok p → Reads bytes s
+reads_here : (bytes : List ℕ) (s : SourceText) (p : ProgramText) → nat_lt (text_limit (dialect_of bytes)) (length bytes) ≡ false → made bytes p ≡ s → text_of (dialect_of bytes) bytes ≡ Ok p → Reads bytes s
 reads_here bytes s p fits is read =
-    let here : Reads bytes (made bytes p) = (refl, record { short = ltb-false TEXT_LIMIT (length bytes) fits; said = said (dialect_of bytes) bytes p read }) in
+    let here : Reads bytes (made bytes p) = (refl, record { short = ltb-false (text_limit (dialect_of bytes)) (length bytes) fits; said = said (dialect_of bytes) bytes p read }) in
     subst (λ (r : SourceText). Reads bytes r) is here
 
 -- what the walk gives is what the text says
 is_source : (bytes : List ℕ) (s : SourceText) → source_of bytes ≡ Ok s → Reads bytes s
-is_source bytes s e = by_length (nat_lt TEXT_LIMIT (length bytes)) refl
+is_source bytes s e = by_length (nat_lt (text_limit (dialect_of bytes)) (length bytes)) refl
   where
-    by_length : (b : Bool) → nat_lt TEXT_LIMIT (length bytes) ≡ b → Reads bytes s
+    by_length : (b : Bool) → nat_lt (text_limit (dialect_of bytes)) (length bytes) ≡ b → Reads bytes s
     by_length true over = absurd (differs s too_long (sym (rw over at e)))
     by_length false fits = let t = told_read bytes (text_of (dialect_of bytes) bytes) s (rw fits at e) in reads_here bytes s t.0 fits t.1 t.2
 

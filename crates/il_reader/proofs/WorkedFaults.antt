@@ -2,7 +2,7 @@
 use Rattle.std.proofs.Common.{◌≡◌, ℕ, List, Result, Err, refl, sym, ap, ◌∙◌, arith, codes}
 use Rattle.il_model.specs.declared.dialect.Dialect.{Dialect}
 use Rattle.il_model.specs.declared.dialect.Dialect.TheVariants as dialects
-use Rattle.il_model.specs.Words.{spells, look, mnemonic_of, is_well_spelled}
+use Rattle.il_model.specs.Words.{spells, look, mnemonic_of, is_well_spelled, name_parts}
 use Rattle.il_reader.specs.declared.fault.FaultAt.{FaultAt}
 use Rattle.il_reader.specs.Tokens.{name_of, word_piece, solid_piece, piece_of, sign_of, tokens_behind}
 use Rattle.il_reader.specs.Front.{skip_breaks}
@@ -23,7 +23,7 @@ pub record Told : Type 0 where
   pub behind : text_of dialects.Plain (codes "; #") ≡ Err (misplaced 3)
 
 told : Told
-unfolding spells look mnemonic_of is_well_spelled name_of word_piece solid_piece piece_of sign_of tokens_behind skip_breaks expect many_within many keyword operator_of is_constant operator_at variable_at constant_at field_at lone_at operand_at behind_at operation_at optional_operation_at is_label labelled_at plain_at either_line_at line_at ends_lines ends_blocks bare_at begins_program program_at text_of
+unfolding spells look mnemonic_of is_well_spelled name_of name_parts word_piece solid_piece piece_of sign_of tokens_behind skip_breaks expect many_within many keyword operator_of is_constant operator_at variable_at constant_at field_at lone_at operand_at behind_at operation_at optional_operation_at is_label labelled_at plain_at either_line_at line_at ends_lines ends_blocks bare_at begins_program program_at text_of
 told = record { operand = refl; field = refl; colon = refl; broken = refl; behind = refl }
 
 refused : FaultAt → Result ProgramText FaultAt

@@ -2,12 +2,12 @@
 use Rattle.std.proofs.Common.{◌≡◌, ℕ, Bool, true, false, not, List, [], ◌∷◌, ◌++◌, length, refl, codes, ◌&&◌}
 use Rattle.il_model.specs.declared.dialect.Dialect.{Dialect}
 use Rattle.il_model.specs.declared.dialect.Dialect.TheVariants as dialects
-use Rattle.il_model.specs.Words.{is_well_spelled, spells}
+use Rattle.il_model.specs.Words.{is_well_spelled, name_parts, spells}
 use Rattle.il_reader.specs.declared.lexeme.Sign.{Sign}
 use Rattle.il_reader.specs.declared.lexeme.Sign.TheVariants as signs
 use Rattle.il_reader.specs.declared.lexeme.Class.{Class}
 use Rattle.il_reader.specs.declared.lexeme.Class.TheVariants as classes
-use Rattle.il_reader.specs.Tokens.{Token, goes_on, tokens_of, tokens_behind, piece_of, solid_piece, sign_of, word_piece, name_of}
+use Rattle.il_reader.specs.Tokens.{Token, goes_on, tokens_of, tokens_behind, piece_of, solid_piece, sign_of, word_piece, name_of, dotted_len}
 use Rattle.il_reader.specs.Front.{is_class_of, is_sign, is_word_token, no_token}
 use Rattle.il_reader.specs.Grammar.{block_word, is_truth, is_variable, is_constant}
 
@@ -149,8 +149,9 @@ abbrev pub a_name : List ℕ → List ℕ
 a_name more = written (codes "A") more
 
 pub name_makes : (dialect : Dialect) → Makes dialect signs.Name (codes "A")
-unfolding tokens_behind piece_of solid_piece word_piece name_of is_well_spelled
-name_makes dialect more = refl
+unfolding tokens_behind piece_of solid_piece word_piece name_of name_parts dotted_len is_well_spelled
+name_makes dialects.Plain more = refl
+name_makes dialects.Extended more = refl
 
 pub name_written : (dialect : Dialect) → Written dialect (is_sign signs.Name)
 name_written dialect = record { sign = signs.Name; word = codes "A"; makes = name_makes dialect; passes = λ more. refl; solid = λ more. refl; goes = sign_goes signs.Name }
@@ -159,8 +160,9 @@ abbrev pub a_truth : List ℕ → List ℕ
 a_truth more = written (codes "TRUE") more
 
 pub truth_makes : (dialect : Dialect) → Makes dialect signs.Name (codes "TRUE")
-unfolding tokens_behind piece_of solid_piece word_piece name_of is_well_spelled
-truth_makes dialect more = refl
+unfolding tokens_behind piece_of solid_piece word_piece name_of name_parts dotted_len is_well_spelled
+truth_makes dialects.Plain more = refl
+truth_makes dialects.Extended more = refl
 
 pub truth_written : (dialect : Dialect) → Written dialect (is_constant)
 unfolding is_constant spells
@@ -170,8 +172,9 @@ abbrev pub an_at : List ℕ → List ℕ
 an_at more = written (codes "AT") more
 
 pub at_makes : (dialect : Dialect) → Makes dialect signs.Name (codes "AT")
-unfolding tokens_behind piece_of solid_piece word_piece name_of is_well_spelled
-at_makes dialect more = refl
+unfolding tokens_behind piece_of solid_piece word_piece name_of name_parts dotted_len is_well_spelled
+at_makes dialects.Plain more = refl
+at_makes dialects.Extended more = refl
 
 pub at_written : (dialect : Dialect) → Written dialect (is_word_token (codes "AT"))
 unfolding spells
@@ -181,31 +184,34 @@ abbrev pub an_end_var : List ℕ → List ℕ
 an_end_var more = written (codes "END_VAR") more
 
 pub end_var_makes : (dialect : Dialect) → Makes dialect signs.Name (codes "END_VAR")
-unfolding tokens_behind piece_of solid_piece word_piece name_of is_well_spelled
-end_var_makes dialect more = refl
+unfolding tokens_behind piece_of solid_piece word_piece name_of name_parts dotted_len is_well_spelled
+end_var_makes dialects.Plain more = refl
+end_var_makes dialects.Extended more = refl
 
 pub end_var_written : (dialect : Dialect) → Written dialect (is_word_token (codes "END_VAR"))
 unfolding spells
 end_var_written dialect = record { sign = signs.Name; word = codes "END_VAR"; makes = end_var_makes dialect; passes = λ more. refl; solid = λ more. refl; goes = λ u is. name_goes u (spells (codes "END_VAR") u.text) is }
 
 pub retain_makes : (dialect : Dialect) → Makes dialect signs.Name (codes "RETAIN")
-unfolding tokens_behind piece_of solid_piece word_piece name_of is_well_spelled
-retain_makes dialect more = refl
+unfolding tokens_behind piece_of solid_piece word_piece name_of name_parts dotted_len is_well_spelled
+retain_makes dialects.Plain more = refl
+retain_makes dialects.Extended more = refl
 
 pub retain_written : (dialect : Dialect) → Written dialect (is_word_token (codes "RETAIN"))
 unfolding spells
 retain_written dialect = record { sign = signs.Name; word = codes "RETAIN"; makes = retain_makes dialect; passes = λ more. refl; solid = λ more. refl; goes = λ u is. name_goes u (spells (codes "RETAIN") u.text) is }
 
 non_retain_makes : (dialect : Dialect) → Makes dialect signs.Name (codes "NON_RETAIN")
-unfolding tokens_behind piece_of solid_piece word_piece name_of is_well_spelled
-non_retain_makes dialect more = refl
+unfolding tokens_behind piece_of solid_piece word_piece name_of name_parts dotted_len is_well_spelled
+non_retain_makes dialects.Plain more = refl
+non_retain_makes dialects.Extended more = refl
 
 pub non_retain_written : (dialect : Dialect) → Written dialect (is_word_token (codes "NON_RETAIN"))
 unfolding spells
 non_retain_written dialect = record { sign = signs.Name; word = codes "NON_RETAIN"; makes = non_retain_makes dialect; passes = λ more. refl; solid = λ more. refl; goes = λ u is. name_goes u (spells (codes "NON_RETAIN") u.text) is }
 
 pub var_makes : (dialect : Dialect) → Makes dialect signs.Name (block_word dialect)
-unfolding tokens_behind piece_of solid_piece word_piece name_of is_well_spelled
+unfolding tokens_behind piece_of solid_piece word_piece name_of name_parts dotted_len is_well_spelled
 var_makes dialects.Plain more = refl
 var_makes dialects.Extended more = refl
 
@@ -215,8 +221,9 @@ var_written dialects.Plain = record { sign = signs.Name; word = codes "VAR"; mak
 var_written dialects.Extended = record { sign = signs.Name; word = codes "VAR_GLOBAL"; makes = var_makes dialects.Extended; passes = λ more. refl; solid = λ more. refl; goes = λ u is. name_goes u (spells (codes "VAR_GLOBAL") u.text) is }
 
 pub program_makes : (dialect : Dialect) → Makes dialect signs.Name (codes "PROGRAM")
-unfolding tokens_behind piece_of solid_piece word_piece name_of is_well_spelled
-program_makes dialect more = refl
+unfolding tokens_behind piece_of solid_piece word_piece name_of name_parts dotted_len is_well_spelled
+program_makes dialects.Plain more = refl
+program_makes dialects.Extended more = refl
 
 pub program_written : (dialect : Dialect) → Written dialect (is_word_token (codes "PROGRAM"))
 unfolding spells
@@ -226,8 +233,9 @@ abbrev pub an_end_program : List ℕ → List ℕ
 an_end_program more = written (codes "END_PROGRAM") more
 
 pub end_program_makes : (dialect : Dialect) → Makes dialect signs.Name (codes "END_PROGRAM")
-unfolding tokens_behind piece_of solid_piece word_piece name_of is_well_spelled
-end_program_makes dialect more = refl
+unfolding tokens_behind piece_of solid_piece word_piece name_of name_parts dotted_len is_well_spelled
+end_program_makes dialects.Plain more = refl
+end_program_makes dialects.Extended more = refl
 
 pub end_program_written : (dialect : Dialect) → Written dialect (is_word_token (codes "END_PROGRAM"))
 unfolding spells

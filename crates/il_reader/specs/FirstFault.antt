@@ -4,7 +4,6 @@ use Rattle.il_model.specs.declared.dialect.Dialect.{Dialect}
 use Rattle.il_model.specs.declared.dialect.Dialect.TheVariants as dialects
 use Rattle.il_reader.specs.declared.fault.FaultKind.{FaultKind}
 use Rattle.il_reader.specs.declared.fault.ReadError.{ReadError}
-use Rattle.il_reader.specs.declared.source.TheConstants.{TEXT_LIMIT}
 use Rattle.il_reader.specs.declared.fault.FaultAt.{FaultAt}
 use Rattle.il_reader.specs.declared.fault.Fault.{Fault}
 use Rattle.il_reader.specs.declared.fault.FaultKind.TheVariants as kinds
@@ -13,7 +12,7 @@ use Rattle.il_reader.specs.Tokens.{Token, tokens_of}
 use Rattle.il_reader.specs.Front.{fault_at}
 use Rattle.il_reader.specs.Grammar.{dialect_of, ProgramText}
 use Rattle.il_reader.specs.Spelling.{SaysTokens}
-use Rattle.il_reader.specs.Texts.{SourceText, placed, too_long, Reads, Answers}
+use Rattle.il_reader.specs.Texts.{SourceText, placed, too_long, text_limit, Reads, Answers}
 
 -- ---- the numbers of faults, as the program prints them
 
@@ -59,10 +58,12 @@ pub record IsTextFault (dialect : Dialect) (bytes : List ℕ) (f : FaultAt) : Ty
 abbrev pub IsSourceFault : List ℕ → Fault → Type 0
 IsSourceFault bytes g = (f : FaultAt) × (g ≡ placed bytes f) × IsTextFault (dialect_of bytes) bytes f
 
--- the first fault of a text: over the limit it's too long, else it stands at the first token with which no text begins
+-- the first fault of a text: over the limit of its dialect it's too long, else it stands at the first token with which
+-- no text begins
 abbrev pub IsFaultOf : List ℕ → Fault → Type 0
 IsFaultOf bytes g =
-    ((TEXT_LIMIT < length bytes) × (g ≡ too_long)) ⊎ ((length bytes ≤ TEXT_LIMIT) × IsSourceFault bytes g)
+    ((text_limit (dialect_of bytes) < length bytes) × (g ≡ too_long))
+    ⊎ ((length bytes ≤ text_limit (dialect_of bytes)) × IsSourceFault bytes g)
 
 -- ---- what a call answers
 

@@ -158,6 +158,7 @@ form_of ops.Ld = forms.Operand
 form_of ops.St = forms.Operand
 form_of ops.S = forms.Operand
 form_of ops.R = forms.Operand
+form_of (ops.Shift s) = forms.Operand
 form_of ops.Jmp = forms.Label
 form_of ops.Cal = forms.Call
 form_of ops.Not = forms.Nothing
@@ -268,8 +269,8 @@ is_no_qualifier dialects.Extended t =
 abbrev pub no_qualifier : Dialect → List Token → Bool
 no_qualifier dialect ts = is_no_qualifier dialect (first ts)
 
-abbrev pub is_qualifier : Dialect → List Token → Bool
-is_qualifier dialect ts = not (no_qualifier dialect ts)
+abbrev pub reads_as_qualifier : Dialect → List Token → Bool
+reads_as_qualifier dialect ts = not (no_qualifier dialect ts)
 
 -- what a block declares is retained where its qualifier says so
 abbrev pub says_retained : Option Qualifier → Bool

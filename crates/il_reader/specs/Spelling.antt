@@ -19,7 +19,7 @@ use Rattle.il_reader.specs.Grammar.{OperandText, Constant, Direct, Named, Field,
 use Rattle.il_reader.specs.Grammar.{before_no_dot, before_close, ends_arguments, no_open, BehindText, Nothing, Given}
 use Rattle.il_reader.specs.Grammar.{Target, Opened, Called, OperationText, LineText, Labelled, Plain, NamesText}
 use Rattle.il_reader.specs.Grammar.{Located, More, DeclarationText, BlockText, ProgramText, is_constant, is_variable}
-use Rattle.il_reader.specs.Grammar.{form_of, qualifier_word, is_qualifier, no_qualifier}
+use Rattle.il_reader.specs.Grammar.{form_of, qualifier_word, reads_as_qualifier, no_qualifier}
 use Rattle.il_reader.specs.Grammar.{operator_of, is_line_stop, is_no_label, no_value, ends_names, ends_block}
 use Rattle.il_reader.specs.Grammar.{ends_blocks, ends_lines, ends_named, begins_program}
 
@@ -185,13 +185,14 @@ going stops s x = ahead (λ us. not (stops us)) ∷ s x
 abbrev pub listed : {X : Type 0} → (List Token → Bool) → (X → List Part) → List X → List Part
 listed stops s xs = flat_map (going stops s) xs ++ ahead stops ∷ []
 
--- RETAIN or NON_RETAIN of var_declarations, retentive_var_declarations and located_var_declarations, where it stands
--- (B.1.4.3)
+-- RETAIN or NON_RETAIN, where it stands: the one or the other of var_declarations, retentive_var_declarations and
+-- located_var_declarations (B.1.4.3)
 abbrev pub spelled_qualifier : Dialect → Option Qualifier → List Part
 spelled_qualifier dialect None = ahead (no_qualifier dialect) ∷ []
-spelled_qualifier dialect (Some q) = ahead (is_qualifier dialect) ∷ word (qualifier_word q) ∷ []
+spelled_qualifier dialect (Some q) = ahead (reads_as_qualifier dialect) ∷ word (qualifier_word q) ∷ []
 
--- these, which may stand in one block (B.1.4.3)
+-- var_declarations, retentive_var_declarations or located_var_declarations (B.1.4.3); declarations of all three sorts
+-- may stand in one block
 abbrev pub spelled_block : Dialect → BlockText → List Part
 spelled_block dialect b =
     breaks ∷ word (block_word dialect)

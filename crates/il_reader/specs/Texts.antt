@@ -2,7 +2,9 @@
 use Rattle.std.specs.Prelude.{ℕ, ◌+◌, ◌-◌, List, [], ◌∷◌, ◌==◌, if◌then◌else◌, length, take, count_by, ◌≡◌, ◌≤◌, Result}
 use Rattle.std.specs.Prelude.{Ok, Err}
 use Rattle.il_reader.specs.declared.place.Place.{Place}
-use Rattle.il_reader.specs.declared.source.TheConstants.{TEXT_LIMIT}
+use Rattle.il_model.specs.declared.dialect.Dialect.{Dialect}
+use Rattle.il_model.specs.declared.dialect.Dialect.TheVariants as dialects
+use Rattle.il_reader.specs.declared.source.TheConstants.{TEXT_LIMIT, EXTENDED_TEXT_LIMIT}
 use Rattle.il_reader.specs.declared.fault.FaultAt.{FaultAt}
 use Rattle.il_reader.specs.declared.fault.Fault.{Fault}
 use Rattle.il_reader.specs.declared.fault.ReadError.{ReadError}
@@ -37,9 +39,14 @@ pub record SourceText : Type 0 where
 abbrev pub source_text : List ℕ → Contents → SourceText
 source_text text contents = record { text = text; says = program_text contents }
 
+-- how many bytes a text has at most: an extended one four times as many
+abbrev pub text_limit : Dialect → ℕ
+text_limit dialects.Plain = TEXT_LIMIT
+text_limit dialects.Extended = EXTENDED_TEXT_LIMIT
+
 -- a text is short enough, and it says this
 pub record IsSource (s : SourceText) : Type 0 where
-  pub short : length s.text ≤ TEXT_LIMIT
+  pub short : length s.text ≤ text_limit (dialect_of s.text)
   pub said : Says (dialect_of s.text) s.text s.says
 
 abbrev pub Reads : List ℕ → SourceText → Type 0

@@ -1,10 +1,11 @@
 -- What stands at the front of a text.
 use Rattle.std.specs.Prelude.{ℕ, zero, suc, ◌+◌, ◌-◌, Bool, true, false, ◌&&◌, ◌||◌, List, [], ◌∷◌, length, take, drop}
 use Rattle.std.specs.Prelude.{Option, Some, None, is_some, nat_lt, nat_le, ◌==◌, if◌then◌else◌}
-use Rattle.std.specs.List.{prefix_len}
+use Rattle.std.specs.List.{prefix_len, list_all, list_any}
 use Rattle.il_model.specs.declared.dialect.Dialect.{Dialect}
-use Rattle.il_model.specs.declared.limits.TheConstants.{LONGEST_NAME}
-use Rattle.il_model.specs.Words.{is_well_spelled}
+use Rattle.il_model.specs.declared.dialect.Dialect.TheVariants as dialects
+use Rattle.il_model.specs.declared.limits.TheConstants.{LONGEST_NAME, LONGEST_DOTTED_NAME}
+use Rattle.il_model.specs.Words.{is_well_spelled, name_parts}
 use Rattle.il_model.specs.Dialects.{literal_in}
 use Rattle.il_reader.specs.declared.fault.FaultKind.TheVariants.{BadByte, BadToken, BadLiteral, UnclosedComment}
 use Rattle.il_reader.specs.declared.fault.FaultKind.TheVariants.{TooLong}
@@ -57,10 +58,29 @@ broken f = record { class = Some (classes.Broken f); len = 1 }
 abbrev pub end : Piece
 end = record { class = Some classes.End; len = 0 }
 
--- a name that is short enough
+abbrev pub begins_letter : List ℕ → Bool
+begins_letter [] = false
+begins_letter (b ∷ bs) = is_letter_byte b
+
+-- how many bytes more a name has in an extended text: letters, digits, underscores, and dots before letters
+unfoldable pub dotted_len : List ℕ → ℕ
+dotted_len [] = 0
+dotted_len (b ∷ bs) = if is_word_byte b || (b == 46 && begins_letter bs) then suc (dotted_len bs) else 0
+
+-- how many bytes more a name has
+abbrev pub name_len : Dialect → List ℕ → ℕ
+name_len dialects.Plain bytes = prefix_len is_word_byte bytes
+name_len dialects.Extended bytes = dotted_len bytes
+
+-- a part has more than 32 characters, or all of it more than 96
+abbrev pub is_long : List ℕ → Bool
+is_long name =
+    nat_lt LONGEST_DOTTED_NAME (length name) || list_any (λ part. nat_lt LONGEST_NAME (length part)) (name_parts name)
+
+-- a name that is short enough, each part of which is well spelled; without dots it has one part
 unfoldable pub name_of : List ℕ → Piece
-name_of name = if is_well_spelled name
-    then (if nat_lt LONGEST_NAME (length name) then broken TooLong else sign signs.Name (length name))
+name_of name = if list_all is_well_spelled (name_parts name)
+    then (if is_long name then broken TooLong else sign signs.Name (length name))
     else broken BadToken
 
 abbrev pub comment_piece : Option ℕ → Piece
@@ -77,7 +97,7 @@ word_piece dialect bytes =
     let n = 1 + prefix_len is_word_byte (drop 1 bytes) in
     if begins_with 35 (drop n bytes)
     then literal_piece dialect (take (1 + prefix_len is_literal_byte (drop 1 bytes)) bytes)
-    else name_of (take n bytes)
+    else name_of (take (1 + name_len dialect (drop 1 bytes)) bytes)
 
 -- the byte is in no word and begins no literal behind one
 abbrev pub is_word_end : List ℕ → Bool

@@ -3,7 +3,6 @@
 use Rattle.std.specs.Prelude.{ℕ, List, [], ◌∷◌, length, Option, Some, None, Result, Ok, Err, Bool, nat_lt}
 use Rattle.std.specs.Prelude.{if◌then◌else◌, codes}
 use Rattle.il_model.specs.declared.dialect.Dialect.{Dialect}
-use Rattle.il_reader.specs.declared.source.TheConstants.{TEXT_LIMIT}
 use Rattle.il_reader.specs.declared.fault.FaultAt.{FaultAt}
 use Rattle.il_reader.specs.declared.fault.Fault.{Fault}
 use Rattle.il_reader.specs.declared.lexeme.Sign.TheVariants as signs
@@ -26,7 +25,7 @@ use Rattle.il_reader.specs.Grammar.{no_dot, before_dot, before_no_dot, is_line_s
 use Rattle.il_reader.specs.Grammar.{no_open, is_label, ends_lines, ends_named, ends_names, no_value, ends_block}
 use Rattle.il_reader.specs.Grammar.{ends_blocks, begins_program, Constant, Direct, Named, Field, Nothing, Given, Target}
 use Rattle.il_reader.specs.Grammar.{Opened, Called, Labelled, Plain, Located, More}
-use Rattle.il_reader.specs.Texts.{SourceText, placed, too_long}
+use Rattle.il_reader.specs.Texts.{SourceText, placed, too_long, text_limit}
 
 -- ---- operators and operands
 
@@ -215,26 +214,29 @@ declaration_at ts = mapped declared
 abbrev pub this_qualifier : Qualifier → Reading Qualifier
 this_qualifier q ts = mapped (λ u. q) (keyword (qualifier_word q)) ts
 
--- RETAIN or NON_RETAIN
+-- the one or the other word of a qualifier
 unfoldable pub either_qualifier_at : Reading Qualifier
 either_qualifier_at ts = choice (next_is_word (qualifier_word qualifiers.Retain)) (this_qualifier qualifiers.Retain)
     (this_qualifier qualifiers.NonRetain) ts
 
--- the one or the other of var_declarations, retentive_var_declarations and located_var_declarations, where it stands
--- (B.1.4.3)
+-- RETAIN or NON_RETAIN, where it stands: the one or the other of var_declarations, retentive_var_declarations and
+-- located_var_declarations (B.1.4.3)
 unfoldable pub qualifier_at : Dialect → Reading (Option Qualifier)
 qualifier_at dialect ts =
     choice (no_qualifier dialect) (stand (no_qualifier dialect) None) (mapped Some either_qualifier_at) ts
 
+-- declarations up to END_VAR
+unfoldable pub declared_at : Reading (List DeclarationText)
+declared_at ts = closed (many ends_block declaration_at) (past (keyword (codes "END_VAR"))) ts
+
 abbrev pub blocked : Option Qualifier × List DeclarationText → BlockText
 blocked (qualifier, ds) = record { qualifier = qualifier; declarations = ds }
 
--- these, which may stand in one block (B.1.4.3)
+-- var_declarations, retentive_var_declarations or located_var_declarations (B.1.4.3); declarations of all three sorts
+-- may stand in one block
 unfoldable pub block_at : Dialect → Reading BlockText
-block_at dialect ts =
-    led (past (keyword (block_word dialect)))
-    (mapped blocked (pair (past (qualifier_at dialect))
-    (closed (many ends_block declaration_at) (past (keyword (codes "END_VAR")))))) ts
+block_at dialect ts = led (past (keyword (block_word dialect)))
+    (mapped blocked (pair (past (qualifier_at dialect)) declared_at)) ts
 
 -- ---- programs
 
@@ -279,4 +281,6 @@ told bytes (Err f) = Err (placed bytes f)
 -- a text over the limit is too long at its first byte, whatever it says
 abbrev pub source_of : List ℕ → Result SourceText Fault
 source_of bytes =
-    if nat_lt TEXT_LIMIT (length bytes) then Err too_long else told bytes (text_of (dialect_of bytes) bytes)
+    if nat_lt (text_limit (dialect_of bytes)) (length bytes)
+    then Err too_long
+    else told bytes (text_of (dialect_of bytes) bytes)

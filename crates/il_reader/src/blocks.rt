@@ -3,10 +3,10 @@
 ghost use Rattle.std.specs.Prelude.{◌≡◌, option_map};
 ghost use Rattle.il_reader.specs.Tokens.{Token, tokens_of, token};
 ghost use Rattle.il_reader.specs.Reading.{Takes};
-ghost use Rattle.il_reader.specs.Grammar.{DeclarationText, BlockText, names_of, declaration, block_text, ends_names};
-ghost use Rattle.il_reader.specs.Grammar.{ends_block, ends_blocks, no_qualifier};
+ghost use Rattle.il_reader.specs.Grammar.{DeclarationText, BlockText, names_of, declaration, declarations, block_text};
+ghost use Rattle.il_reader.specs.Grammar.{ends_names, ends_block, ends_blocks, reads_as_qualifier};
 ghost use Rattle.il_reader.specs.Walk.{name_at, names_at, initial_at, declaration_at, either_qualifier_at, qualifier_at};
-ghost use Rattle.il_reader.specs.Walk.{block_at};
+ghost use Rattle.il_reader.specs.Walk.{declared_at, block_at};
 
 use crate::contents::{Block, Declaration, Names, Qualifier};
 use crate::dialect::{begins_block, block_word};
@@ -140,14 +140,14 @@ impl<'a> Listed<'a> for Declarations {
     }
 }
 
-/// Whether no qualifier stands next; one may in an extended text alone.
-fn no_qualifier(dialect: Dialect, bytes: &[u8]) -> bool
-    ensures { result ≡ no_qualifier dialect (tokens_of dialect bytes.now) }
+/// Whether a qualifier stands next; one may in an extended text alone.
+fn reads_as_qualifier(dialect: Dialect, bytes: &[u8]) -> bool
+    ensures { result ≡ reads_as_qualifier dialect (tokens_of dialect bytes.now) }
 {
     let (t, _) = next(dialect, bytes);
     match dialect {
-        Dialect::Plain => true,
-        Dialect::Extended => !(is_word(b"RETAIN", t) || is_word(b"NON_RETAIN", t)),
+        Dialect::Plain => false,
+        Dialect::Extended => is_word(b"RETAIN", t) || is_word(b"NON_RETAIN", t),
     }
 }
 
@@ -165,12 +165,12 @@ fn either_qualifier(dialect: Dialect, bytes: &[u8]) -> Result<(Qualifier, &[u8])
     }
 }
 
-/// The qualifier, where one stands next.
+/// RETAIN or NON_RETAIN, where it stands next.
 #[tactic(auto, unfolding(crate::specs::Walk::qualifier_at))]
-fn qualifier(dialect: Dialect, bytes: &[u8]) -> Result<(Option<Qualifier>, &[u8]), Failure>
+pub fn qualifier_read(dialect: Dialect, bytes: &[u8]) -> Result<(Option<Qualifier>, &[u8]), Failure>
     ensures { Takes dialect (λ q. q) (qualifier_at dialect) bytes.now result }
 {
-    if no_qualifier(dialect, bytes) {
+    if !reads_as_qualifier(dialect, bytes) {
         Ok((None, bytes))
     } else {
         let (qualifier, rest) = either_qualifier(dialect, bytes)?;
@@ -178,14 +178,27 @@ fn qualifier(dialect: Dialect, bytes: &[u8]) -> Result<(Option<Qualifier>, &[u8]
     }
 }
 
+/// The declarations up to END_VAR, and what stands behind it.
+#[tactic(auto, unfolding(crate::specs::Walk::declared_at))]
+pub fn declarations_read(
+    dialect: Dialect,
+    alloc: Global,
+    bytes: &[u8],
+) -> Result<(Vec<Declaration<'_>>, &[u8]), Failure>
+    ensures { Takes dialect (λ xs. declarations xs.items) declared_at bytes.now result }
+{
+    let (found, rest) = many::<Declarations>(dialect, alloc, bytes)?;
+    let rest = past_keyword(dialect, b"END_VAR", past_breaks(dialect, rest))?;
+    Ok((found, rest))
+}
+
 #[tactic(auto, unfolding(crate::specs::Walk::block_at))]
 fn block(dialect: Dialect, alloc: Global, bytes: &[u8]) -> Result<(Block<'_>, &[u8]), Failure>
     ensures { Takes dialect block_text (block_at dialect) bytes.now result }
 {
     let rest = past_keyword(dialect, block_word(dialect), past_breaks(dialect, bytes))?;
-    let (qualifier, rest) = qualifier(dialect, past_breaks(dialect, rest))?;
-    let (declarations, rest) = many::<Declarations>(dialect, alloc, rest)?;
-    let rest = past_keyword(dialect, b"END_VAR", past_breaks(dialect, rest))?;
+    let (qualifier, rest) = qualifier_read(dialect, past_breaks(dialect, rest))?;
+    let (declarations, rest) = declarations_read(dialect, alloc, rest)?;
     Ok((
         Block {
             qualifier,

@@ -25,7 +25,8 @@ pub enum FaultKind {
     /// A token, or the end of the text, that no case of the grammar allows there.
     #[error("misplaced")]
     Misplaced,
-    /// A name of more than `LONGEST_NAME` characters; or a text over its limit, at its first byte.
+    /// A name of more than `LONGEST_NAME` characters, in an extended text a part of one or one of more than
+    /// `LONGEST_DOTTED_NAME` bytes; or a text over its limit, at its first byte.
     #[error("too long")]
     TooLong,
 }

@@ -1,14 +1,15 @@
 //! The tokens of a text (IEC 61131-3:2003, 2.1 and B.1.1).
 
-ghost use Rattle.std.specs.Prelude.{◌≡◌, ◌≢◌, ◌≤◌, ◌<◌, ◌+◌, length, IfSome, true};
-ghost use Rattle.std.specs.List.{prefix_len};
+ghost use Rattle.std.specs.Prelude.{◌≡◌, ◌≢◌, ◌≤◌, ◌<◌, ◌+◌, length, nat_lt, IfSome, true};
+ghost use Rattle.std.specs.List.{prefix_len, list_all, list_any};
+ghost use Rattle.il_model.specs.Words.{is_well_spelled, name_parts};
 ghost use Rattle.il_reader.specs.Tokens.{is_letter_byte, is_number_start, is_blank_byte, solid_piece, is_word_byte};
 ghost use Rattle.il_reader.specs.Tokens.{is_literal_byte, is_address_byte, name_of, literal_piece, word_piece, sign_of};
 ghost use Rattle.il_reader.specs.Tokens.{comment_len, comment_piece, piece_of, begins_with, is_word_end, is_n, joined};
-ghost use Rattle.il_reader.specs.Tokens.{tokens_of, token};
+ghost use Rattle.il_reader.specs.Tokens.{tokens_of, token, begins_letter, dotted_len, name_len};
 
 use crate::fault::FaultKind;
-use il_model::{Dialect, LONGEST_NAME, is_well_spelled};
+use il_model::{Dialect, LONGEST_DOTTED_NAME, LONGEST_NAME, first_part, is_well_spelled};
 
 /// What the grammar asks for: a line end, a name, a literal, an address, or one of the language's marks.
 #[derive(Clone, Copy, PartialEq, Eq)]
@@ -159,6 +160,60 @@ fn comment_end(bytes: &[u8]) -> Option<usize>
     None
 }
 
+fn starts_letter(bytes: &[u8]) -> bool
+    ensures { result ≡ begins_letter bytes.now }
+{
+    match bytes {
+        [] => false,
+        [b, ..] => is_letter(*b),
+    }
+}
+
+#[tactic(auto, unfolding(crate::specs::Tokens::dotted_len))]
+fn dotted_len(bytes: &[u8]) -> usize
+    ensures value { result ≡ dotted_len bytes.now }
+    ensures fits { result ≤ length bytes.now }
+{
+    let mut rest = bytes;
+    let mut count = 0usize;
+    while let [b, others @ ..] = rest {
+        if !is_word(*b) && !(*b == b'.' && starts_letter(others)) {
+            return count;
+        }
+        count += 1;
+        rest = others;
+    }
+    count
+}
+
+fn name_len(dialect: Dialect, bytes: &[u8]) -> usize
+    ensures value { result ≡ name_len dialect bytes.now }
+    ensures fits { result ≤ length bytes.now }
+{
+    match dialect {
+        Dialect::Plain => word_len(bytes),
+        Dialect::Extended => dotted_len(bytes),
+    }
+}
+
+fn are_well_spelled(name: &[u8]) -> bool
+    ensures { result ≡ list_all is_well_spelled (name_parts name.now) }
+{
+    match first_part(name) {
+        (part, Some(rest)) => is_well_spelled(part) && are_well_spelled(rest),
+        (part, None) => is_well_spelled(part),
+    }
+}
+
+fn has_long_part(name: &[u8]) -> bool
+    ensures { result ≡ list_any (λ part. nat_lt LONGEST_NAME (length part)) (name_parts name.now) }
+{
+    match first_part(name) {
+        (part, Some(rest)) => part.len() > LONGEST_NAME || has_long_part(rest),
+        (part, None) => part.len() > LONGEST_NAME,
+    }
+}
+
 #[tactic(auto, unfolding(crate::specs::Tokens::name_of))]
 fn name_piece(name: &[u8]) -> Piece
     requires { 0 < length name.now }
@@ -166,9 +221,9 @@ fn name_piece(name: &[u8]) -> Piece
     ensures fits { result.len ≤ length name.now }
     ensures moves { 0 < result.len }
 {
-    if !is_well_spelled(name) {
+    if !are_well_spelled(name) {
         Piece::broken(FaultKind::BadToken)
-    } else if name.len() > LONGEST_NAME {
+    } else if name.len() > LONGEST_DOTTED_NAME || has_long_part(name) {
         Piece::broken(FaultKind::TooLong)
     } else {
         Piece::sign(Sign::Name, name.len())
@@ -196,11 +251,11 @@ fn word_at(dialect: Dialect, bytes: &[u8]) -> Piece
     ensures fits { result.len ≤ length bytes.now }
     ensures moves { 0 < result.len }
 {
-    let (name, others) = bytes.split_at(1 + word_len(&bytes[1..]));
-    if starts_with(others, b'#') {
-        judged_literal(dialect, &bytes[..1 + literal_len(&bytes[1..])])
+    let others = &bytes[1..];
+    if starts_with(&others[word_len(others)..], b'#') {
+        judged_literal(dialect, &bytes[..1 + literal_len(others)])
     } else {
-        name_piece(name)
+        name_piece(&bytes[..1 + name_len(dialect, others)])
     }
 }
 

@@ -32,7 +32,7 @@ fn follows(op: Op) -> Form
     ensures { result ≡ form_of op }
 {
     match op {
-        Op::Ld | Op::St | Op::S | Op::R => Form::Operand,
+        Op::Ld | Op::St | Op::S | Op::R | Op::Shift(_) => Form::Operand,
         Op::Jmp => Form::Label,
         Op::Cal => Form::Call,
         Op::Not | Op::Ret | Op::Close | Op::Empty => Form::Nothing,

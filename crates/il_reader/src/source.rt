@@ -1,7 +1,7 @@
 //! A text that was read.
 
-ghost use Rattle.std.specs.Prelude.{◌≡◌, IfOk};
-ghost use Rattle.il_reader.specs.Texts.{Reads, Answers};
+ghost use Rattle.std.specs.Prelude.{◌≡◌, ◌<◌, ◌^◌, IfOk};
+ghost use Rattle.il_reader.specs.Texts.{text_limit, Reads, Answers};
 ghost use Rattle.il_reader.specs.FirstFault.{IsGiven, TellsFirst, IsTold};
 ghost use Rattle.il_reader.specs.Walk.{source_of};
 
@@ -31,8 +31,21 @@ impl<'a> Model for Source<'a> {
     ghost invariant = { λ s. IsSource (source_text s.text.now s.contents) };
 }
 
-/// The greatest length of a text, in bytes.
+/// The greatest length of a plain text, in bytes.
 pub const TEXT_LIMIT: usize = 2_097_152;
+
+/// The greatest length of an extended text, in bytes.
+pub const EXTENDED_TEXT_LIMIT: usize = 8_388_608;
+
+fn text_limit(dialect: Dialect) -> usize
+    ensures value { result ≡ text_limit dialect }
+    ensures small { result < 2 ^ 32 }
+{
+    match dialect {
+        Dialect::Plain => TEXT_LIMIT,
+        Dialect::Extended => EXTENDED_TEXT_LIMIT,
+    }
+}
 
 impl<'a> Source<'a> {
     ghost use Rattle.std.specs.Prelude.{map};
@@ -71,6 +84,7 @@ impl<'a> Source<'a> {
     }
 
     /// Where the byte of the text stands from which on so many are left.
+    #[tactic(auto, using(crate::proofs::Sources::limit_small))]
     pub fn place(&self, left: usize) -> Place
         ensures { result ≡ place_at self.now.text left }
     {
@@ -84,13 +98,14 @@ fn walked(alloc: Global, bytes: &[u8]) -> Result<Source<'_>, ReadError>
     ensures only { IsGiven bytes.now result }
     ensures exact { Answers (λ s. s) result (source_of bytes.now) }
 {
-    if bytes.len() > TEXT_LIMIT {
+    let dialect = dialect_of(bytes);
+    if bytes.len() > text_limit(dialect) {
         return Err(ReadError::Fault(Fault {
             kind: FaultKind::TooLong,
             place: Place { line: 1, column: 1 },
         }));
     }
-    match whole(dialect_of(bytes), alloc, bytes) {
+    match whole(dialect, alloc, bytes) {
         Ok(contents) => Ok(Source {
             text: bytes,
             contents,
@@ -103,10 +118,10 @@ fn walked(alloc: Global, bytes: &[u8]) -> Result<Source<'_>, ReadError>
     }
 }
 
-/// Reads a text of at most 2,097,152 bytes (IEC 61131-3:2003, 3.2 and Annex B: declarations with locations and initial
-/// values, labels, all operators, fields of instances, calls with lists of inputs and outputs). A text that begins with
-/// VAR_GLOBAL, which no colon follows, is an extended text. A longer text is too long at 1:1, before all else. Answers
-/// the first fault in the text, or that memory ran out.
+/// Reads a text (IEC 61131-3:2003, 3.2 and Annex B: declarations with locations and initial values, labels, all
+/// operators, fields of instances, calls with lists of inputs and outputs). A text that begins with VAR_GLOBAL, which no
+/// colon follows, is an extended text, and has at most 8,388,608 bytes; any other has at most 2,097,152. A longer text is
+/// too long at 1:1, before all else. Answers the first fault in the text, or that memory ran out.
 pub fn read(alloc: Global, bytes: &[u8]) -> Result<Source<'_>, ReadError>
     // What is read is what the text says.
     ensures found { IfOk result (λ s. Reads bytes.now s) }

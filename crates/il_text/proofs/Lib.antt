@@ -1,3 +1,4 @@
+pub mod HexTexts
 pub mod Imaged
 pub mod Numbered
 mod OneMeaning

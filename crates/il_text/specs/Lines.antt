@@ -5,6 +5,7 @@ use Rattle.std.specs.Fmt.{decimal, signed_decimal}
 use Rattle.il_real.specs.Texts.{real_text}
 use Rattle.il_model.specs.Answers.{refusal_number}
 use Rattle.il_model.specs.Operators.{is_zero}
+use Rattle.il_model.specs.BitStrings.{hex_word, hex_double}
 use Rattle.il_model.specs.declared.command.Answer.{Answer}
 use Rattle.il_model.specs.declared.command.Answer.TheVariants as answers
 use Rattle.il_model.specs.declared.value.Stop.{Stop}
@@ -41,6 +42,8 @@ value_text (values.Dint z) = codes "value DINT#" ++ signed_decimal z
 value_text (values.Lint z) = codes "value LINT#" ++ signed_decimal z
 value_text (values.Time z) = codes "value T#" ++ (signed_decimal z ++ codes "ms")
 value_text (values.Real r) = codes "value REAL#" ++ real_text r
+value_text (values.Word n) = codes "value WORD#16#" ++ hex_word n
+value_text (values.Dword n) = codes "value DWORD#16#" ++ hex_double n
 
 -- an answer, without the end of its line
 abbrev pub answer_text : Answer → List ℕ

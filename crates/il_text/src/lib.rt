@@ -16,8 +16,7 @@
 //! fault is told by its line and its status, and an answer by its line: all of it goes out, or a device is told only
 //! where the writer failed.
 //!
-//! Tests (nothing rests on them alone): `line_rows` of `tests_tool` have each fault's line, and the rows of `tests_rows`
-//! what texts and answers print.
+//! Tests (nothing rests on them alone): the rows of `tests_rows` have what texts and answers print.
 #![tactic(auto)]
 
 mod fault;

@@ -3,11 +3,13 @@
 ghost use Rattle.std.specs.Prelude.{◌≡◌, Some};
 ghost use Rattle.std.specs.Fmt.{DisplaysOnOk};
 ghost use Rattle.il_text.specs.Lines.{answer_text, bit_text, word_text, bits_text, words_text, stop_name, value_text};
+ghost use Rattle.il_model.specs.BitStrings.{hex_word};
+ghost use Rattle.il_model.specs.declared.value.Value.TheVariants as values;
 ghost use Rattle.il_text.specs.Lines.{line_text};
 ghost use Rattle.il_text.specs.Telling.{Puts};
 
 use crate::fault::Fault;
-use il_model::{Answer, Stop, Value};
+use il_model::{Answer, Stop, Value, halves};
 use io_model::{CountedWrite, write_all};
 use std::alloc::Global;
 use std::fmt;
@@ -89,6 +91,31 @@ fn name_of(stop: Stop) -> &'static str
     }
 }
 
+/// The four hexadecimal digits of a WORD, by its two bytes.
+fn digits<W: fmt::Write>(f: &mut fmt::Formatter<W>, bits: u16) -> fmt::Result
+    ensures { DisplaysOnOk W.write_str_gives f.old result (Some (hex_word bits)) f.new }
+{
+    let high = bits / 256;
+    let low = bits % 256;
+    write!(f, "{high:02X}{low:02X}")
+}
+
+fn word<W: fmt::Write>(f: &mut fmt::Formatter<W>, bits: u16) -> fmt::Result
+    ensures { DisplaysOnOk W.write_str_gives f.old result (Some (value_text (values.Word bits))) f.new }
+{
+    f.write_str("value WORD#16#")?;
+    digits(f, bits)
+}
+
+fn double_word<W: fmt::Write>(f: &mut fmt::Formatter<W>, bits: u32) -> fmt::Result
+    ensures { DisplaysOnOk W.write_str_gives f.old result (Some (value_text (values.Dword bits))) f.new }
+{
+    let (high, low) = halves(bits);
+    f.write_str("value DWORD#16#")?;
+    digits(f, high)?;
+    digits(f, low)
+}
+
 fn literal<W: fmt::Write>(f: &mut fmt::Formatter<W>, value: Value) -> fmt::Result
     ensures { DisplaysOnOk W.write_str_gives f.old result (Some (value_text value)) f.new }
 {
@@ -103,6 +130,8 @@ fn literal<W: fmt::Write>(f: &mut fmt::Formatter<W>, value: Value) -> fmt::Resul
             let text = number.text();
             write!(f, "value REAL#{text}")
         }
+        Value::Word(bits) => word(f, bits),
+        Value::Dword(bits) => double_word(f, bits),
     }
 }
 

@@ -12,15 +12,15 @@ use Rattle.il_model.specs.Words.{spells, look, mnemonic_of, is_reserved, is_well
 use Rattle.il_model.specs.Image.{may_retain}
 use Rattle.il_model.specs.Kinds.{kind_name}
 use Rattle.il_reader.specs.declared.lexeme.Sign.TheVariants as signs
-use Rattle.il_reader.specs.Tokens.{Token, is_word_end, tokens_of}
+use Rattle.il_reader.specs.Tokens.{Token, tokens_of}
 use Rattle.il_reader.specs.Front.{is_sign, is_word_token, next_is}
 use Rattle.il_reader.specs.Grammar.{is_constant, no_value, ends_names, ends_block, DeclarationText}
 use Rattle.il_reader.specs.Spelling.{Part, breaks, ahead, this, sign, name, word, address, Spell, is_not_at, spelled_names, spelled_initial, spelled_declaration, going}
 use Rattle.il_lister.specs.Listing.{literal_text, location_text, type_name, at_text, initial_text, variable_text, instance_text}
 use Rattle.laws_listing.proofs.Sayable.{newest, IsSayable}
-use Rattle.laws_listing.proofs.NameTexts.{IsName, IsFreeName, not_word, type_is, kind_is, name_by}
+use Rattle.laws_listing.proofs.NameTexts.{IsWord, word_by, IsFreeName, not_word, type_is, kind_is}
 use Rattle.laws_listing.proofs.Written.{token_at, literal_at, written_names, written_initial, ending, written_variable, written_instance, Declared, OfVariable, OfInstance, retained_of, name_of, text_of, written_declared}
-use Rattle.laws_listing.proofs.Pieces.{name_token, literal_token, location_token, blank_skips, break_token, colon_token, assign_token, semicolon_token}
+use Rattle.laws_listing.proofs.Pieces.{is_name_end, name_token, word_token, literal_token, location_token, blank_skips, break_token, colon_token, assign_token, semicolon_token}
 use Rattle.laws_listing.proofs.Parts.{Begins, spell_same, spell_this, spell_one, spell_ahead, spell_solid, spell_break, skip_one, skip_none}
 use Rattle.laws_listing.proofs.Arguments.{literal_constant, literal_solid}
 
@@ -38,7 +38,7 @@ ends_so dialect rest =
 
 -- how a declaration ends behind its type
 record EndsType (dialect : Dialect) (initial : Option Token) (text rest : List ℕ) : Type 0 where
-  word : is_word_end (text ++ ending rest) ≡ true
+  word : is_name_end (text ++ ending rest) ≡ true
   spelled : Spell (breaks ∷ (spelled_initial initial ++ semicolon)) (tokens_of dialect (text ++ ending rest)) (tokens_of dialect (10 ∷ rest))
 
 no_initial : (dialect : Dialect) (rest : List ℕ) → EndsType dialect None [] rest
@@ -93,14 +93,14 @@ colon_is dialect ty text rest =
     let u = ty ++ (text ++ ending rest) in
     blank_skips dialect (58 ∷ 32 ∷ u) ∙ colon_token dialect (32 ∷ u) refl ∙ ap (λ (ts : List Token). colon ty text rest ∷ ts) (blank_skips dialect u)
 
-type_spelled : (dialect : Dialect) (ty : List ℕ) (initial : Option Token) (text rest : List ℕ) → IsName ty → EndsType dialect initial text rest → Spell (type_parts (type_token ty text rest) initial) (tokens_of dialect (typed ty text rest)) (tokens_of dialect (10 ∷ rest))
+type_spelled : (dialect : Dialect) (ty : List ℕ) (initial : Option Token) (text rest : List ℕ) → IsWord ty → EndsType dialect initial text rest → Spell (type_parts (type_token ty text rest) initial) (tokens_of dialect (typed ty text rest)) (tokens_of dialect (10 ∷ rest))
 type_spelled dialect ty initial text rest is ends =
     let u = ty ++ (text ++ ending rest) in
     let v = text ++ ending rest in
     let ts = tokens_of dialect (typed ty text rest) in
     let e = colon_is dialect ty text rest in
     let t = type_token ty text rest in
-    let f = name_token dialect ty v is ends.word in
+    let f = word_token dialect ty v is ends.word in
     let ps = breaks ∷ (spelled_initial initial ++ semicolon) in
     spell_solid (sign signs.Colon ∷ breaks ∷ name t ∷ ps) ts (colon ty text rest) (tokens_of dialect u) (tokens_of dialect (10 ∷ rest)) (record { is = e; solid = refl })
     (spell_one (is_sign signs.Colon) (colon ty text rest) (breaks ∷ name t ∷ ps) ts (tokens_of dialect u) (tokens_of dialect (10 ∷ rest)) e refl
@@ -109,15 +109,15 @@ type_spelled dialect ty initial text rest is ends =
 
 -- ---- the names
 
-at_is : IsName (codes "AT")
+at_is : IsWord (codes "AT")
 unfolding is_well_spelled
-at_is = name_by _ refl
+at_is = word_by _ refl
 
 at_word : (rest : List ℕ) → is_word_token (codes "AT") (token_at signs.Name (codes "AT") rest) ≡ true
 unfolding spells
 at_word rest = refl
 
-names_by : (dialect : Dialect) (o : Option Loc) (ty : List ℕ) (initial : Option Token) (text rest : List ℕ) → IsName ty → EndsType dialect initial text rest
+names_by : (dialect : Dialect) (o : Option Loc) (ty : List ℕ) (initial : Option Token) (text rest : List ℕ) → IsWord ty → EndsType dialect initial text rest
     → Spell (breaks ∷ (spelled_names (written_names o (typed ty text rest)) ++ type_parts (type_token ty text rest) initial)) (tokens_of dialect (at_text o ++ typed ty text rest)) (tokens_of dialect (10 ∷ rest))
 unfolding ends_names
 names_by dialect None ty initial text rest is ends =
@@ -136,7 +136,7 @@ names_by dialect (Some loc) ty initial text rest is ends =
     let u = location_text loc ++ v in
     let ts = tokens_of dialect (at_text (Some loc) ++ v) in
     let a = token_at signs.Name (codes "AT") (32 ∷ u) in
-    let e : ts ≡ a ∷ tokens_of dialect u = blank_skips dialect (codes "AT" ++ (32 ∷ u)) ∙ name_token dialect (codes "AT") (32 ∷ u) at_is refl ∙ ap (λ (us : List Token). a ∷ us) (blank_skips dialect u) in
+    let e : ts ≡ a ∷ tokens_of dialect u = blank_skips dialect (codes "AT" ++ (32 ∷ u)) ∙ word_token dialect (codes "AT") (32 ∷ u) at_is refl ∙ ap (λ (us : List Token). a ∷ us) (blank_skips dialect u) in
     let t = token_at signs.Address (location_text loc) v in
     let f = location_token dialect loc v (record { word = refl; literal = refl; address = refl }) in
     let ps = type_parts (type_token ty text rest) initial in
@@ -159,19 +159,19 @@ declared w o ty initial text rest = record {
   initial = initial;
 }
 
-name_ends : (o : Option Loc) (rest : List ℕ) → is_word_end (at_text o ++ (32 ∷ rest)) ≡ true
+name_ends : (o : Option Loc) (rest : List ℕ) → is_name_end (at_text o ++ (32 ∷ rest)) ≡ true
 name_ends None rest = refl
 name_ends (Some loc) rest = refl
 
 -- a declaration goes on where it begins
-goes : (dialect : Dialect) (w behind : List ℕ) → IsFreeName w → is_word_end behind ≡ true → not (ends_block (tokens_of dialect (10 ∷ (w ++ behind)))) ≡ true
+goes : (dialect : Dialect) (w behind : List ℕ) → IsFreeName dialect w → is_name_end behind ≡ true → not (ends_block (tokens_of dialect (10 ∷ (w ++ behind)))) ≡ true
 unfolding ends_block
 goes dialect w behind is ends =
     let u = w ++ behind in
     let e = name_token dialect w behind is.name ends in
-    rw (skip_one dialect u (tokens_of dialect (10 ∷ u)) (token_at signs.Name w behind) (tokens_of dialect behind) (break_token dialect u) (record { is = e; solid = refl }), e, not_word (codes "END_VAR") w end_reserved is) refl
+    rw (skip_one dialect u (tokens_of dialect (10 ∷ u)) (token_at signs.Name w behind) (tokens_of dialect behind) (break_token dialect u) (record { is = e; solid = refl }), e, not_word dialect (codes "END_VAR") w end_reserved is) refl
 
-declaration_spelled : (dialect : Dialect) (w : List ℕ) (o : Option Loc) (ty : List ℕ) (initial : Option Token) (text rest : List ℕ) → IsFreeName w → IsName ty → EndsType dialect initial text rest
+declaration_spelled : (dialect : Dialect) (w : List ℕ) (o : Option Loc) (ty : List ℕ) (initial : Option Token) (text rest : List ℕ) → IsFreeName dialect w → IsWord ty → EndsType dialect initial text rest
     → Spell (going ends_block spelled_declaration (declared w o ty initial text rest)) (tokens_of dialect (10 ∷ (w ++ (at_text o ++ typed ty text rest)))) (tokens_of dialect (10 ∷ rest))
 declaration_spelled dialect w o ty initial text rest free is ends =
     let behind = at_text o ++ typed ty text rest in
@@ -191,13 +191,13 @@ variable_joined v rest = simp append_assoc refl
 instance_joined : (x : Instance) (rest : List ℕ) → instance_text x ++ rest ≡ x.name ++ typed (kind_name x.kind) [] rest
 instance_joined x rest = simp append_assoc refl
 
-variable_spelled : (dialect : Dialect) (v : Variable) (rest : List ℕ) → IsFreeName v.name → IsSayable dialect v.initial → Spell (going ends_block spelled_declaration (written_variable v rest)) (tokens_of dialect (10 ∷ (variable_text v ++ rest))) (tokens_of dialect (10 ∷ rest))
+variable_spelled : (dialect : Dialect) (v : Variable) (rest : List ℕ) → IsFreeName dialect v.name → IsSayable dialect v.initial → Spell (going ends_block spelled_declaration (written_variable v rest)) (tokens_of dialect (10 ∷ (variable_text v ++ rest))) (tokens_of dialect (10 ∷ rest))
 variable_spelled dialect v rest is value =
     spell_same (going ends_block spelled_declaration (written_variable v rest)) (tokens_of dialect (10 ∷ (variable_text v ++ rest))) (tokens_of dialect (10 ∷ (v.name ++ (at_text v.location ++ typed (type_name v.ty) (initial_text v.initial) rest)))) (tokens_of dialect (10 ∷ rest))
     (ap (λ (u : List ℕ). (tokens_of dialect) (10 ∷ u)) (variable_joined v rest))
     (declaration_spelled dialect v.name v.location (type_name v.ty) (written_initial v.initial (ending rest)) (initial_text v.initial) rest is (type_is v.ty) (initial_ends dialect v.initial rest value))
 
-instance_spelled : (dialect : Dialect) (x : Instance) (rest : List ℕ) → IsFreeName x.name → Spell (going ends_block spelled_declaration (written_instance x rest)) (tokens_of dialect (10 ∷ (instance_text x ++ rest))) (tokens_of dialect (10 ∷ rest))
+instance_spelled : (dialect : Dialect) (x : Instance) (rest : List ℕ) → IsFreeName dialect x.name → Spell (going ends_block spelled_declaration (written_instance x rest)) (tokens_of dialect (10 ∷ (instance_text x ++ rest))) (tokens_of dialect (10 ∷ rest))
 instance_spelled dialect x rest is =
     spell_same (going ends_block spelled_declaration (written_instance x rest)) (tokens_of dialect (10 ∷ (instance_text x ++ rest))) (tokens_of dialect (10 ∷ (x.name ++ typed (kind_name x.kind) [] rest))) (tokens_of dialect (10 ∷ rest))
     (ap (λ (u : List ℕ). (tokens_of dialect) (10 ∷ u)) (instance_joined x rest))
@@ -211,7 +211,7 @@ SaysFirst dialect (OfInstance x) = Unit {0}
 
 -- one that the text can say: its name is free, its first value can be said, and the dialect can say whether it's retained
 pub record IsSaid (dialect : Dialect) (d : Declared) : Type 0 where
-  pub name : IsFreeName (name_of d)
+  pub name : IsFreeName dialect (name_of d)
   pub first : SaysFirst dialect d
   pub retained : may_retain (newest dialect) (retained_of d) ≡ true
 

@@ -1,6 +1,6 @@
 -- The listing's declarations are resolved to the program's own.
 use Rattle.std.proofs.Common.{◌≡◌, ℕ, ◌+◌, ◌<◌, ◌≤◌, Bool, true, false, cond, ltb, List, [], ◌∷◌, ◌++◌, length, Option, Some, None, Result, Ok, refl, sym, ap, ◌∙◌, subst, arith, ◌||◌, ◌&&◌, not, append_assoc}
-use Rattle.std.specs.Prelude.{is_some, ℤ, pos, negsuc, map}
+use Rattle.std.specs.Prelude.{is_some, ℤ, pos, negsuc, nat_abs, map}
 use Rattle.std.specs.List.{AllByRecursion, flat_map, list_any}
 use Rattle.std.proofs.lemmas.List.{length-append, append-nil}
 use Rattle.std.proofs.lemmas.Bool.{lt-leb, ltb-false}
@@ -23,16 +23,15 @@ use Rattle.il_model.specs.Words.{spells, is_lawful_name}
 use Rattle.il_model.specs.Kinds.{kind_name}
 use Rattle.il_model.specs.declared.program.Area.{Area}
 use Rattle.il_model.specs.Locations.{area_of, seen_as}
-use Rattle.il_model.proofs.WrittenLocations.{seen_again, parts_seen, area_seen}
+use Rattle.il_model.proofs.WrittenLocations.{text_loc, seen_again, parts_in_text, area_in_text}
 use Rattle.std.specs.Option.{option_and_then}
 use Rattle.il_model.specs.declared.coded_operand.CodedOperand.{CodedOperand}
 use Rattle.il_model.specs.declared.coded_operand.CodedOperand.TheVariants as coded
 use Rattle.il_model.specs.CodedOperands.{loc_code, IsCell, HasOwnCode, with_code}
 use Rattle.il_model.proofs.CodedOperands.{coded_back}
-use Rattle.il_model.specs.Image.{location_code, type_version, value_version, location_version, may_have, may_lie, may_retain, may_declare, may_instantiate}
+use Rattle.il_model.specs.Image.{location_code, type_version, value_version, location_version, may_have, may_lie, may_retain, may_call, may_declare, may_instantiate}
 use Rattle.il_model.specs.Typing.{loc_type, is_writable_area}
-use Rattle.il_model.specs.Resolved.{instance_in}
-use Rattle.il_model.specs.Codes.{is_number, is_new_name, is_taken, is_overlapped, is_type, is_free, may_start_with}
+use Rattle.il_model.specs.Codes.{is_number, is_taken, is_overlapped, is_type, is_free, may_start_with}
 use Rattle.il_model.specs.Codes as codes_of
 use Rattle.il_model.specs.Fits.{IsVariable, IsInstance, AreItems}
 use Rattle.il_model.proofs.RealValues.{real_same}
@@ -44,15 +43,15 @@ use Rattle.il_declarations.specs.declared.variables.DeclaredType.TheVariants.{El
 use Rattle.il_declarations.specs.Resolution.{declared_type, same_type, is_input, written_value, variable}
 use Rattle.il_declarations.specs.Declaring.{BlockDeclaration, in_block, declarations_in}
 use Rattle.il_declarations.proofs.Agreeing.{each_flat}
-use Rattle.il_declarations.specs.Walk.{each, nothing, has_name, has_instance, is_full, new_name, free_location, elementary_value, planned_value, with_variable, with_instance, declare_name, declare_located, declare_listed, declare, declare_block, program_at, told, resolution_of}
+use Rattle.il_declarations.specs.Walk.{each, nothing, has_name, has_instance, is_shadowed, is_full, new_name, free_location, elementary_value, planned_value, with_variable, with_instance, declare_name, declare_located, declare_listed, declare, declare_block, program_at, told, resolution_of}
 use Rattle.il_reader.specs.declared.contents.Qualifier.TheVariants as qualifiers
-use Rattle.il_lister.specs.Listing.{location_text, type_name, is_qualifier, first_retained, first_name}
+use Rattle.il_lister.specs.Listing.{location_text, type_name, reads_as_qualifier, first_retained, first_name}
 use Rattle.laws_listing.proofs.Fronts.{both_true, not_true}
 use Rattle.laws_listing.proofs.Sayable.{newest, IsSayable, IsSayableProgram}
 use Rattle.laws_listing.proofs.LiteralTexts.{literal_again}
 use Rattle.laws_listing.proofs.LocationTexts.{location_again}
 use Rattle.laws_listing.proofs.NameTexts.{IsFreeName, lawful_free, capital}
-use Rattle.laws_listing.proofs.Listable.{variable_free, items_all, some_is, if_some, tested_is, IsOfType, of_type, all_of_both, listable}
+use Rattle.laws_listing.proofs.Listable.{variable_lawful, instance_apart, instance_name, items_all, some_is, if_some, tested_is, IsOfType, of_type, all_of_both, listable}
 use Rattle.laws_listing.proofs.Written.{token_at, literal_at, written_initial, written_variable, written_instance, Declared, retained_of, name_of, written_declared, of_instances, all_declared, both_alike, declared_text, written_qualifier, written_open, written_sections, end_text, declared_of, begins_retained, first_qualifier, written_blocks, written}
 use Rattle.laws_listing.proofs.Resolves.{lines_back}
 
@@ -74,6 +73,8 @@ zero_value (values.Dint z) e = ap values.Dint (sym (zero_number z e))
 zero_value (values.Time z) e = ap values.Time (sym (zero_number z e))
 zero_value (values.Lint z) e = ap values.Lint (sym (zero_number z e))
 zero_value (values.Real r) e = real_same zero_real r (sym (zero_number (pos r.pattern) e))
+zero_value (values.Word n) e = ap (λ (z : ℤ). values.Word (nat_abs z)) (sym (zero_number (pos n) e))
+zero_value (values.Dword n) e = ap (λ (z : ℤ). values.Dword (nat_abs z)) (sym (zero_number (pos n) e))
 
 zero_of_type : (type : Ty) (v : Value) → IsOfType type v → is_zero (number_of v) ≡ true → zero_of type ≡ v
 zero_of_type type v of e = ap zero_of (sym of.is) ∙ zero_value v e
@@ -96,6 +97,8 @@ same_self types.Dint = refl
 same_self types.Time = refl
 same_self types.Lint = refl
 same_self types.Real = refl
+same_self types.Word = refl
+same_self types.Dword = refl
 
 no_input : (loc : Option Loc) (v : Value) → may_start_with loc v ≡ true → is_zero (number_of v) ≡ false → is_input loc ≡ false
 no_input None v may some = refl
@@ -132,10 +135,17 @@ planned_back dialect type v rest first = by_test (is_zero (number_of v)) refl
 
 -- ---- names, types and locations
 
-new_back : (type : Option DeclaredType) (known : Declarations) (name rest : List ℕ) → IsFreeName name → has_name known name ≡ false → has_instance known name ≡ false → is_full type known ≡ false
+-- a name that may be declared behind what is known
+record IsNew (dialect : Dialect) (type : Option DeclaredType) (known : Declarations) (name : List ℕ) : Type 0 where
+  free : IsFreeName dialect name
+  no_variable : has_name known name ≡ false
+  no_instance : has_instance known name ≡ false
+  apart : is_shadowed type known name ≡ false
+
+new_back : (dialect : Dialect) (type : Option DeclaredType) (known : Declarations) (name rest : List ℕ) → IsNew dialect type known name → is_full type known ≡ false
     → new_name type known (token_at signs.Name name rest) ≡ Ok name
 unfolding new_name
-new_back type known name rest is a b c = rw (capital name is.name, a, b, is.free, c) refl
+new_back dialect type known name rest is few = rw (capital dialect name is.free.name, is.no_variable, is.no_instance, is.apart, is.free.free, few) refl
 
 type_back : (dialect : Dialect) (type : Ty) → may_have (newest dialect) (type_version type) ≡ true → declared_type dialect (type_name type) ≡ Some (Elementary type)
 unfolding spells
@@ -146,6 +156,10 @@ type_back dialect types.Time known = refl
 type_back dialect types.Lint known = refl
 type_back dialects.Plain types.Real known = absurd cc
 type_back dialects.Extended types.Real known = refl
+type_back dialects.Plain types.Word known = absurd cc
+type_back dialects.Extended types.Word known = refl
+type_back dialects.Plain types.Dword known = absurd cc
+type_back dialects.Extended types.Dword known = refl
 
 -- a kind is no type
 plain_kind : (kind : BlockKind) → declared_type dialects.Plain (kind_name kind) ≡ Some (Block kind)
@@ -202,54 +216,50 @@ located_is seen type loc e = by_code (with_code (loc_code loc)) refl e
     by_code None f h = absurd cc
     by_code (Some x) f h = by_operand x (coded_back (loc_code loc) x f).own h
 
--- a double word is read as DINT, and its declaration makes it the variable's type
+-- a word is read as INT, a double word as DINT, and the declaration makes it the variable's type
 location_back : (dialect : Dialect) (known : Declarations) (type : Ty) (loc : Loc) (rest : List ℕ) → IsLocated known.variables type loc → may_have (newest dialect) (location_version loc) ≡ true
-    → free_location dialect (Some (Elementary type)) known (token_at signs.Address (location_text loc) rest) ≡ Ok (seen_as types.Dint loc)
+    → free_location dialect (Some (Elementary type)) known (token_at signs.Address (location_text loc) rest) ≡ Ok (text_loc loc)
 location_back dialect known type loc rest is may =
-    let suits : is_type type (loc_type (seen_as type (seen_as types.Dint loc))) ≡ true = ap (λ (l : Loc). is_type type (loc_type l)) (seen_again type loc is.suits) ∙ is.suits in
-    let free : is_overlapped known.variables (seen_as types.Dint loc) ≡ false = ap (λ (parts : List Loc). list_any (λ (part : Loc). is_taken known.variables (loc_code part)) parts) (parts_seen types.Dint loc) ∙ is.free in
+    let suits : is_type type (loc_type (seen_as type (text_loc loc))) ≡ true = ap (λ (l : Loc). is_type type (loc_type l)) (seen_again type loc is.suits) ∙ is.suits in
+    let free : is_overlapped known.variables (text_loc loc) ≡ false = ap (λ (parts : List Loc). list_any (λ (part : Loc). is_taken known.variables (loc_code part)) parts) (parts_in_text loc) ∙ is.free in
     rw (location_again dialect loc is.place may, suits, free) refl
 
-first_seen : (dialect : Dialect) (type : Ty) (loc : Loc) (v : Value) → IsFirst dialect type (Some loc) v → IsFirst dialect type (Some (seen_as types.Dint loc)) v
+first_seen : (dialect : Dialect) (type : Ty) (loc : Loc) (v : Value) → IsFirst dialect type (Some loc) v → IsFirst dialect type (Some (text_loc loc)) v
 first_seen dialect type loc v first = record {
   of = first.of;
   known = first.known;
-  may = ap (λ (a : Area). is_writable_area a || is_zero (number_of v)) (area_seen types.Dint loc) ∙ first.may;
+  may = ap (λ (a : Area). is_writable_area a || is_zero (number_of v)) (area_in_text loc) ∙ first.may;
 }
 
 -- ---- variables and instances
 
-record IsNew (known : Declarations) (name : List ℕ) : Type 0 where
-  free : IsFreeName name
-  no_variable : has_name known name ≡ false
-  no_instance : has_instance known name ≡ false
-
-located_back : (dialect : Dialect) (retained : Bool) (known : Declarations) (name : List ℕ) (type : Ty) (loc : Loc) (v : Value) (rest : List ℕ) → IsNew known name → is_full (Some (Elementary type)) known ≡ false → IsLocated known.variables type loc → may_have (newest dialect) (location_version loc) ≡ true → IsFirst dialect type (Some loc) v
+located_back : (dialect : Dialect) (retained : Bool) (known : Declarations) (name : List ℕ) (type : Ty) (loc : Loc) (v : Value) (rest : List ℕ) → IsNew dialect (Some (Elementary type)) known name → is_full (Some (Elementary type)) known ≡ false → IsLocated known.variables type loc → may_have (newest dialect) (location_version loc) ≡ true → IsFirst dialect type (Some loc) v
     → declare dialect known (in_block retained (written_variable (variable retained name type (Some loc) v) rest)) ≡ Ok (with_variable known (variable retained name type (Some loc) v))
 unfolding declare_located
 located_back dialect retained known name type loc v rest new few at may first =
-    rw (type_back dialect type first.known, new_back (Some (Elementary type)) known name _ new.free new.no_variable new.no_instance few, location_back dialect known type loc _ at may, initial_back dialect type (Some (seen_as types.Dint loc)) v _ (first_seen dialect type loc v first), seen_again type loc at.suits) refl
+    rw (type_back dialect type first.known, new_back dialect (Some (Elementary type)) known name _ new few, location_back dialect known type loc _ at may, initial_back dialect type (Some (text_loc loc)) v _ (first_seen dialect type loc v first), seen_again type loc at.suits) refl
 
-listed_back : (dialect : Dialect) (retained : Bool) (known : Declarations) (name : List ℕ) (type : Ty) (v : Value) (rest : List ℕ) → IsNew known name → is_full (Some (Elementary type)) known ≡ false → IsFirst dialect type None v
+listed_back : (dialect : Dialect) (retained : Bool) (known : Declarations) (name : List ℕ) (type : Ty) (v : Value) (rest : List ℕ) → IsNew dialect (Some (Elementary type)) known name → is_full (Some (Elementary type)) known ≡ false → IsFirst dialect type None v
     → declare dialect known (in_block retained (written_variable (variable retained name type None v) rest)) ≡ Ok (with_variable known (variable retained name type None v))
 unfolding declare_listed declare_name each
 listed_back dialect retained known name type v rest new few first =
-    rw (type_back dialect type first.known, new_back (Some (Elementary type)) known name _ new.free new.no_variable new.no_instance few, initial_back dialect type None v _ first, planned_back dialect type v _ first) refl
+    rw (type_back dialect type first.known, new_back dialect (Some (Elementary type)) known name _ new few, initial_back dialect type None v _ first, planned_back dialect type v _ first) refl
 
-instance_back : (dialect : Dialect) (known : Declarations) (x : Instance) (rest : List ℕ) → IsNew known x.name → is_full (Some (Block x.kind)) known ≡ false → declare dialect known (in_block x.retained (written_instance x rest)) ≡ Ok (with_instance known x)
+instance_back : (dialect : Dialect) (known : Declarations) (x : Instance) (rest : List ℕ) → IsNew dialect (Some (Block x.kind)) known x.name → is_full (Some (Block x.kind)) known ≡ false → declare dialect known (in_block x.retained (written_instance x rest)) ≡ Ok (with_instance known x)
 unfolding declare_listed declare_name each
 instance_back dialect known x rest new few =
-    rw (kind_back dialect x.kind, new_back (Some (Block x.kind)) known x.name _ new.free new.no_variable new.no_instance few) refl
+    rw (kind_back dialect x.kind, new_back dialect (Some (Block x.kind)) known x.name _ new few) refl
 
 -- a declared variable: a name, a value that can be said, a location that is there, and a dialect in which it may be retained
 pub record IsListedVariable (dialect : Dialect) (v : Variable) : Type 0 where
-  pub name : IsFreeName v.name
+  pub name : IsFreeName dialect v.name
   pub value : IsSayable dialect v.initial
   pub place : (loc : Loc) → v.location ≡ Some loc → IsCell loc
   pub retained : may_retain (newest dialect) v.retained ≡ true
 
 -- what a version may have of a variable
 record IsHad (dialect : Dialect) (v : Variable) : Type 0 where
+  name : may_call (newest dialect) v.name ≡ true
   type : may_have (newest dialect) (type_version v.ty) ≡ true
   place : may_lie (newest dialect) v.location ≡ true
   retained : may_retain (newest dialect) v.retained ≡ true
@@ -258,14 +268,15 @@ had : (dialect : Dialect) (v : Variable) → may_declare (newest dialect) v ≡ 
 had dialect v may =
     let lies = may_lie (newest dialect) v.location in
     let retained = may_retain (newest dialect) v.retained in
-    let a = both_true (may_have (newest dialect) (type_version v.ty)) (may_have (newest dialect) (value_version v.initial) && (lies && retained)) may in
+    let n = both_true (may_call (newest dialect) v.name) (may_have (newest dialect) (type_version v.ty) && (may_have (newest dialect) (value_version v.initial) && (lies && retained))) may in
+    let a = both_true (may_have (newest dialect) (type_version v.ty)) (may_have (newest dialect) (value_version v.initial) && (lies && retained)) n.1 in
     let b = both_true (may_have (newest dialect) (value_version v.initial)) (lies && retained) a.1 in
     let c = both_true lies retained b.1 in
-    record { type = a.0; place = c.0; retained = c.1 }
+    record { name = n.0; type = a.0; place = c.0; retained = c.1 }
 
 variable_listed : (dialect : Dialect) (seen : List Variable) (v : Variable) → IsVariable seen v → may_declare (newest dialect) v ≡ true → IsListedVariable dialect v
 variable_listed dialect seen v is may = record {
-  name = variable_free seen v is;
+  name = lawful_free dialect v.name (variable_lawful seen v is) (had dialect v may).name;
   value = first_said dialect v.ty v.location v.initial (first_is dialect v.ty v.location v.initial is.initial (had dialect v may).type);
   place = by_location v.location is.location;
   retained = (had dialect v may).retained;
@@ -286,22 +297,22 @@ variables_listed dialect Q is =
 abbrev known_as : List Variable → List Instance → Declarations
 known_as vs xs = record { variables = vs; instances = xs }
 
-new_variable : (seen : List Variable) (v : Variable) → IsVariable seen v → IsNew (known_as seen []) v.name
-new_variable seen v is =
+new_variable : (dialect : Dialect) (seen : List Variable) (v : Variable) → IsVariable seen v → may_call (newest dialect) v.name ≡ true → IsNew dialect (Some (Elementary v.ty)) (known_as seen []) v.name
+new_variable dialect seen v is may =
     let h = both_true (is_lawful_name v.name) (not (is_some (is_number seen v.name))) is.name in
-    record { free = lawful_free v.name is.length h.0; no_variable = not_true (is_some (is_number seen v.name)) h.1; no_instance = refl }
+    record { free = lawful_free dialect v.name (variable_lawful seen v is) may; no_variable = not_true (is_some (is_number seen v.name)) h.1; no_instance = refl; apart = refl }
 
 -- the declarations that the listing writes, each with what its block says
 abbrev written_in_blocks : List Declared → List ℕ → List BlockDeclaration
 written_in_blocks [] rest = []
 written_in_blocks (d ∷ ds) rest = in_block (retained_of d) (written_declared d (declared_text (retained_of d) ds rest)) ∷ written_in_blocks ds rest
 
-variable_by : (dialect : Dialect) (seen : List Variable) (retained : Bool) (name : List ℕ) (type : Ty) (o : Option Loc) (v : Value) (rest : List ℕ) → IsVariable seen (variable retained name type o v) → may_have (newest dialect) (type_version type) ≡ true → may_lie (newest dialect) o ≡ true → length seen < 512
+variable_by : (dialect : Dialect) (seen : List Variable) (retained : Bool) (name : List ℕ) (type : Ty) (o : Option Loc) (v : Value) (rest : List ℕ) → IsVariable seen (variable retained name type o v) → may_call (newest dialect) name ≡ true → may_have (newest dialect) (type_version type) ≡ true → may_lie (newest dialect) o ≡ true → length seen < 512
     → declare dialect (known_as seen []) (in_block retained (written_variable (variable retained name type o v) rest)) ≡ Ok (known_as (seen ++ variable retained name type o v ∷ []) [])
-variable_by dialect seen retained name type None v rest is known lies few =
-    listed_back dialect retained (known_as seen []) name type v rest (new_variable seen (variable retained name type None v) is) (lt-leb 512 (length seen) few) (first_is dialect type None v is.initial known)
-variable_by dialect seen retained name type (Some loc) v rest is known lies few =
-    located_back dialect retained (known_as seen []) name type loc v rest (new_variable seen (variable retained name type (Some loc) v) is) (lt-leb 512 (length seen) few) (located_is seen type loc is.location) lies (first_is dialect type (Some loc) v is.initial known)
+variable_by dialect seen retained name type None v rest is called known lies few =
+    listed_back dialect retained (known_as seen []) name type v rest (new_variable dialect seen (variable retained name type None v) is called) (lt-leb 512 (length seen) few) (first_is dialect type None v is.initial known)
+variable_by dialect seen retained name type (Some loc) v rest is called known lies few =
+    located_back dialect retained (known_as seen []) name type loc v rest (new_variable dialect seen (variable retained name type (Some loc) v) is called) (lt-leb 512 (length seen) few) (located_is seen type loc is.location) lies (first_is dialect type (Some loc) v is.initial known)
 
 variables_back : (dialect : Dialect) (seen vs : List Variable) (xs : List Instance) (rest : List ℕ) → AreItems IsVariable seen vs → AllByRecursion (λ (v : Variable). may_declare (newest dialect) v ≡ true) vs → length seen + length vs ≤ 512
     → each (declare dialect) (known_as seen []) (written_in_blocks (all_declared vs xs) rest) ≡ each (declare dialect) (known_as (seen ++ vs) []) (written_in_blocks (of_instances xs) rest)
@@ -309,21 +320,20 @@ unfolding each
 variables_back dialect seen [] xs rest all known few = rw (append-nil seen) refl
 variables_back dialect seen (v ∷ vs) xs rest all known few =
     let has = had dialect v known.0 in
-    rw (variable_by dialect seen v.retained v.name v.ty v.location v.initial (declared_text v.retained (all_declared vs xs) rest) all.0 has.type has.place (omega (arith, few)))
+    rw (variable_by dialect seen v.retained v.name v.ty v.location v.initial (declared_text v.retained (all_declared vs xs) rest) all.0 has.name has.type has.place (omega (arith, few)))
     (variables_back dialect (seen ++ v ∷ []) vs xs rest all.1 known.1 (omega (arith, few, length-append seen (v ∷ []))) ∙ rw (append_assoc seen (v ∷ []) vs) refl)
 
-new_instance : (vs : List Variable) (seen : List Instance) (x : Instance) → IsInstance vs seen x → IsNew (known_as vs seen) x.name
-new_instance vs seen x is =
-    let new = both_true (is_new_name vs x.name) (not (is_some (instance_in seen x.name))) is.name in
-    let h = both_true (is_lawful_name x.name) (not (is_some (is_number vs x.name))) new.0 in
-    record { free = lawful_free x.name is.length h.0; no_variable = not_true (is_some (is_number vs x.name)) h.1; no_instance = not_true (is_some (instance_in seen x.name)) new.1 }
+new_instance : (dialect : Dialect) (vs : List Variable) (seen : List Instance) (x : Instance) → IsInstance vs seen x → may_instantiate (newest dialect) x ≡ true → IsNew dialect (Some (Block x.kind)) (known_as vs seen) x.name
+new_instance dialect vs seen x is may =
+    let a = instance_apart vs seen x is in
+    record { free = lawful_free dialect x.name a.lawful (instance_name dialect x may); no_variable = a.no_variable; no_instance = a.no_instance; apart = a.apart }
 
-instances_back : (dialect : Dialect) (vs : List Variable) (seen xs : List Instance) (rest : List ℕ) → AreItems (IsInstance vs) seen xs → length seen + length xs ≤ 128 → each (declare dialect) (known_as vs seen) (written_in_blocks (of_instances xs) rest) ≡ Ok (known_as vs (seen ++ xs))
+instances_back : (dialect : Dialect) (vs : List Variable) (seen xs : List Instance) (rest : List ℕ) → AreItems (IsInstance vs) seen xs → AllByRecursion (λ (x : Instance). may_instantiate (newest dialect) x ≡ true) xs → length seen + length xs ≤ 128 → each (declare dialect) (known_as vs seen) (written_in_blocks (of_instances xs) rest) ≡ Ok (known_as vs (seen ++ xs))
 unfolding each
-instances_back dialect vs seen [] rest all few = rw (append-nil seen) refl
-instances_back dialect vs seen (x ∷ xs) rest all few =
-    rw (instance_back dialect (known_as vs seen) x (declared_text x.retained (of_instances xs) rest) (new_instance vs seen x all.0) (lt-leb 128 (length seen) (omega (arith, few))))
-    (instances_back dialect vs (seen ++ x ∷ []) xs rest all.1 (omega (arith, few, length-append seen (x ∷ []))) ∙ rw (append_assoc seen (x ∷ []) xs) refl)
+instances_back dialect vs seen [] rest all may few = rw (append-nil seen) refl
+instances_back dialect vs seen (x ∷ xs) rest all may few =
+    rw (instance_back dialect (known_as vs seen) x (declared_text x.retained (of_instances xs) rest) (new_instance dialect vs seen x all.0 may.0) (lt-leb 128 (length seen) (omega (arith, few))))
+    (instances_back dialect vs (seen ++ x ∷ []) xs rest all.1 may.1 (omega (arith, few, length-append seen (x ∷ []))) ∙ rw (append_assoc seen (x ∷ []) xs) refl)
 
 -- ---- by blocks
 
@@ -333,7 +343,7 @@ said_by false = refl
 
 qualifier_says : (retained : Bool) (name : List ℕ) → says_retained (written_qualifier retained name) ≡ retained
 qualifier_says true name = refl
-qualifier_says false name = said_by (is_qualifier name)
+qualifier_says false name = said_by (reads_as_qualifier name)
 
 -- the open section's, and those of the sections behind it
 abbrev in_sections : Bool → List DeclarationText → List BlockText → List BlockDeclaration
@@ -355,7 +365,7 @@ sections_said before (d ∷ ds) rest =
 
 instances_plain : (xs : List Instance) → AllByRecursion (λ (x : Instance). may_instantiate (newest dialects.Plain) x ≡ true) xs → first_retained [] xs ≡ false
 instances_plain [] may = refl
-instances_plain (x ∷ xs) may = plain_so x.retained may.0
+instances_plain (x ∷ xs) may = plain_so x.retained (both_true (may_call (newest dialects.Plain) x.name) (may_retain (newest dialects.Plain) x.retained) may.0).1
   where
     plain_so : (b : Bool) → may_retain (newest dialects.Plain) b ≡ true → b ≡ false
     plain_so true e = absurd cc
@@ -384,7 +394,7 @@ blocks_back : (dialect : Dialect) (Q : Program) → IsSayableProgram dialect Q �
 blocks_back dialect Q is =
     let text = is.image.text in
     let first = variables_back dialect [] Q.variables Q.instances (end_text Q) text.variables is.variables (let few = text.variables_few in omega (arith, few)) in
-    let second = instances_back dialect Q.variables [] Q.instances (end_text Q) text.instances (let few = text.instances_few in omega (arith, few)) in
+    let second = instances_back dialect Q.variables [] Q.instances (end_text Q) text.instances is.instances (let few = text.instances_few in omega (arith, few)) in
     each_flat (declare dialect) declarations_in nothing (written_blocks dialect Q)
     ∙ ap (each (declare dialect) nothing) (blocks_said dialect Q is)
     ∙ first ∙ second

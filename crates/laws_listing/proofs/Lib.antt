@@ -2,8 +2,10 @@ pub mod Fronts
 pub mod Sayable
 pub mod Numerals
 pub mod RealTexts
+pub mod BitTexts
 pub mod LiteralTexts
 pub mod LocationTexts
+pub mod NameRuns
 pub mod NameTexts
 pub mod OperatorTexts
 pub mod Settles

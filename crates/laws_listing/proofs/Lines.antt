@@ -10,7 +10,7 @@ use Rattle.il_model.specs.Program.{Declarations}
 use Rattle.il_model.specs.Words.{spells, look, mnemonic_of, is_reserved}
 use Rattle.il_model.specs.Codes.{is_empty}
 use Rattle.il_reader.specs.declared.lexeme.Sign.TheVariants as signs
-use Rattle.il_reader.specs.Tokens.{Token, is_word_end, tokens_behind, piece_of, tokens_of}
+use Rattle.il_reader.specs.Tokens.{Token, tokens_behind, piece_of, tokens_of}
 use Rattle.il_reader.specs.Front.{is_sign, is_end, at_end, is_word_token, next_is, skip_breaks}
 use Rattle.il_reader.specs.Grammar.{is_line_stop, is_no_label, ends_lines, block_word, begins_block, ends_blocks}
 use Rattle.il_reader.specs.Spelling.{Part, breaks, ahead, sign, Spell, spelled_operation, spelled_optional_operation, spelled_content, spelled_line, going}
@@ -20,7 +20,7 @@ use Rattle.laws_listing.proofs.NameTexts.{IsFreeName, not_word}
 use Rattle.laws_listing.proofs.Listable.{IsListedLabel, IsListedLine}
 use Rattle.laws_listing.proofs.Written.{token_at, written_operation, unless_empty, colon_text, labelled_line, written_line, written_lines}
 use Rattle.laws_listing.proofs.Resolves.{empty_line}
-use Rattle.laws_listing.proofs.Pieces.{name_token, blank_skips, break_token, colon_token}
+use Rattle.laws_listing.proofs.Pieces.{is_name_end, name_token, blank_skips, break_token, colon_token}
 use Rattle.laws_listing.proofs.Parts.{Begins, spell_this, spell_one, spell_ahead, spell_break, skip_one}
 use Rattle.laws_listing.proofs.Operations.{operation_spelled, stops}
 
@@ -34,7 +34,7 @@ empty_text : (dialect : Dialect) (ds : Declarations) (line : Instr) → IsListed
 empty_text dialect ds line is e = sym (ap operation_text (empty_line line.label line.op line.modifier.negated line.modifier.conditional line.modifier.opens line.operand line.arguments e is.letters is.form is.called))
 
 colon_spelled : (dialect : Dialect) (ds : Declarations) (line : Instr) (rest : List ℕ) (b : Bool) → is_empty line.op ≡ b → IsListedLine dialect ds line
-    → Spell (sign signs.Colon ∷ (spelled_optional_operation dialect (unless_empty b (written_operation line (10 ∷ rest))) ++ ahead is_line_stop ∷ [])) (tokens_of dialect (colon_text b ++ operation_at line rest)) (tokens_of dialect (10 ∷ rest))
+    → Spell (sign signs.Colon ∷ (spelled_optional_operation dialect (unless_empty b (written_operation dialect line (10 ∷ rest))) ++ ahead is_line_stop ∷ [])) (tokens_of dialect (colon_text b ++ operation_at line rest)) (tokens_of dialect (10 ∷ rest))
 colon_spelled dialect ds line rest true e is =
     let same : colon_text true ++ operation_at line rest ≡ 58 ∷ 10 ∷ rest = ap (λ (u : List ℕ). 58 ∷ (u ++ (10 ∷ rest))) (empty_text dialect ds line is e) in
     let t = token_at signs.Colon (58 ∷ []) (10 ∷ rest) in
@@ -42,7 +42,7 @@ colon_spelled dialect ds line rest true e is =
 colon_spelled dialect ds line rest false e is =
     let u = operation_at line rest in
     let t = token_at signs.Colon (58 ∷ []) (32 ∷ u) in
-    let x = written_operation line (10 ∷ rest) in
+    let x = written_operation dialect line (10 ∷ rest) in
     let s = operation_spelled dialect ds line rest is e in
     spell_one (is_sign signs.Colon) t (spelled_operation dialect x ++ ahead is_line_stop ∷ []) (tokens_of dialect (58 ∷ 32 ∷ u)) (tokens_of dialect u) (tokens_of dialect (10 ∷ rest)) (colon_token dialect (32 ∷ u) refl ∙ ap (λ (ts : List Token). t ∷ ts) (blank_skips dialect u)) refl
     (Spell-append (spelled_operation dialect x) (ahead is_line_stop ∷ []) (tokens_of dialect u) (tokens_of dialect (10 ∷ rest)) (tokens_of dialect (10 ∷ rest)) s.spelled (stops dialect rest, refl))
@@ -55,7 +55,7 @@ record IsSpelledLine (dialect : Dialect) (label : Option (List ℕ)) (line : Ins
   begins : Begins (tokens_of dialect (label_text line.op label ++ operation_at line rest)) first more
   no_end : is_end first ≡ false
   no_block : begins_block dialect (first ∷ more) ≡ false
-  spelled : Spell (spelled_content dialect (labelled_line label line (10 ∷ rest)) ++ ahead is_line_stop ∷ []) (tokens_of dialect (label_text line.op label ++ operation_at line rest)) (tokens_of dialect (10 ∷ rest))
+  spelled : Spell (spelled_content dialect (labelled_line dialect label line (10 ∷ rest)) ++ ahead is_line_stop ∷ []) (tokens_of dialect (label_text line.op label ++ operation_at line rest)) (tokens_of dialect (10 ∷ rest))
 
 full : (op : Op) (label : Option (List ℕ)) → label ≡ None → (is_empty op && is_none label) ≡ false → is_empty op ≡ false
 full op label e h = by_test (is_empty op) (rw e at h)
@@ -64,7 +64,7 @@ full op label e h = by_test (is_empty op) (rw e at h)
     by_test true f = absurd cc
     by_test false f = refl
 
-colon_ends : (b : Bool) (rest : List ℕ) → is_word_end (colon_text b ++ rest) ≡ true
+colon_ends : (b : Bool) (rest : List ℕ) → is_name_end (colon_text b ++ rest) ≡ true
 colon_ends true rest = refl
 colon_ends false rest = refl
 
@@ -82,19 +82,19 @@ colon_next ps [] rest h = absurd h
 colon_next ps (t ∷ ts) rest h = h.0
 
 -- a label begins none: VAR is reserved, and a colon stands behind it
-label_none : (dialect : Dialect) (w rest : List ℕ) (more : List Token) → IsFreeName w → next_is signs.Colon more ≡ true → begins_block dialect (token_at signs.Name w rest ∷ more) ≡ false
-label_none dialects.Plain w rest more free colon = not_word (codes "VAR") w block_reserved free
+label_none : (dialect : Dialect) (w rest : List ℕ) (more : List Token) → IsFreeName dialect w → next_is signs.Colon more ≡ true → begins_block dialect (token_at signs.Name w rest ∷ more) ≡ false
+label_none dialects.Plain w rest more free colon = not_word dialects.Plain (codes "VAR") w block_reserved free
 label_none dialects.Extended w rest more free colon = by_word (spells (codes "VAR_GLOBAL") w)
   where
     by_word : (b : Bool) → (b && not (next_is signs.Colon more)) ≡ false
     by_word true = rw colon refl
     by_word false = refl
 
-line_by : (dialect : Dialect) (ds : Declarations) (label : Option (List ℕ)) (line : Instr) (rest : List ℕ) → line.label ≡ label → IsListedLabel label → IsListedLine dialect ds line → IsSpelledLine dialect label line rest
+line_by : (dialect : Dialect) (ds : Declarations) (label : Option (List ℕ)) (line : Instr) (rest : List ℕ) → line.label ≡ label → IsListedLabel dialect label → IsListedLine dialect ds line → IsSpelledLine dialect label line rest
 line_by dialect ds None line rest e free is =
     let s = operation_spelled dialect ds line rest is (full line.op line.label e is.labelled) in
     let u = operation_at line rest in
-    let x = written_operation line (10 ∷ rest) in
+    let x = written_operation dialect line (10 ∷ rest) in
     record {
       first = s.first;
       more = s.more;
@@ -110,7 +110,7 @@ line_by dialect ds (Some w) line rest e free is =
     let t = token_at signs.Name w u in
     let ts = tokens_of dialect ((w ++ colon_text b) ++ operation_at line rest) in
     let same : ts ≡ t ∷ tokens_of dialect u = ap (tokens_of dialect) (append_assoc w (colon_text b) (operation_at line rest)) ∙ name_token dialect w u free.name (colon_ends b (operation_at line rest)) in
-    let ps = spelled_optional_operation dialect (unless_empty b (written_operation line (10 ∷ rest))) ++ ahead is_line_stop ∷ [] in
+    let ps = spelled_optional_operation dialect (unless_empty b (written_operation dialect line (10 ∷ rest))) ++ ahead is_line_stop ∷ [] in
     let colon = colon_spelled dialect ds line rest b refl is in
     record {
       first = t;
@@ -129,13 +129,13 @@ goes : (dialect : Dialect) (ts : List Token) (bytes : List ℕ) (x : Token) (mor
 unfolding ends_lines
 goes dialect ts bytes x more e b other = rw (skip_one dialect bytes ts x more e b, b.is, other) refl
 
-line_spelled : (dialect : Dialect) (ds : Declarations) (line : Instr) (rest : List ℕ) → IsListedLine dialect ds line → Spell (going ends_lines (spelled_line dialect) (written_line line (10 ∷ rest))) (tokens_of dialect (10 ∷ (line_text line ++ rest))) (tokens_of dialect (10 ∷ rest))
+line_spelled : (dialect : Dialect) (ds : Declarations) (line : Instr) (rest : List ℕ) → IsListedLine dialect ds line → Spell (going ends_lines (spelled_line dialect) (written_line dialect line (10 ∷ rest))) (tokens_of dialect (10 ∷ (line_text line ++ rest))) (tokens_of dialect (10 ∷ rest))
 line_spelled dialect ds line rest is =
     let u = label_text line.op line.label ++ operation_at line rest in
     let s = line_by dialect ds line.label line rest refl is.label is in
     let ts = tokens_of dialect (10 ∷ (line_text line ++ rest)) in
     let e : ts ≡ token_at signs.Break (10 ∷ []) u ∷ tokens_of dialect u = ap (λ (v : List ℕ). (tokens_of dialect) (10 ∷ v)) (line_joined line rest) ∙ break_token dialect u in
-    let ps = spelled_content dialect (written_line line (10 ∷ rest)) ++ ahead is_line_stop ∷ [] in
+    let ps = spelled_content dialect (written_line dialect line (10 ∷ rest)) ++ ahead is_line_stop ∷ [] in
     spell_ahead (λ us. not (ends_lines us)) (breaks ∷ ps) ts (tokens_of dialect (10 ∷ rest)) (goes dialect ts u s.first s.more e s.begins s.no_end)
     (spell_break dialect ps ts u s.first s.more (tokens_of dialect (10 ∷ rest)) e s.begins s.spelled)
 
@@ -146,12 +146,12 @@ unfolding ends_lines skip_breaks tokens_behind piece_of
 no_line dialect = refl
 
 pub lines_spelled : (dialect : Dialect) (ds : Declarations) (code : List Instr) → AllByRecursion (IsListedLine dialect ds) code
-    → Spell (flat_map (going ends_lines (spelled_line dialect)) (written_lines code) ++ ahead ends_lines ∷ []) (tokens_of dialect (10 ∷ flat_map line_text code)) (tokens_of dialect (10 ∷ []))
+    → Spell (flat_map (going ends_lines (spelled_line dialect)) (written_lines dialect code) ++ ahead ends_lines ∷ []) (tokens_of dialect (10 ∷ flat_map line_text code)) (tokens_of dialect (10 ∷ []))
 lines_spelled dialect ds [] all = (no_line dialect, refl)
 lines_spelled dialect ds (line ∷ code) all =
     let rest = flat_map line_text code in
-    let x = written_line line (10 ∷ rest) in
-    let qs = flat_map (going ends_lines (spelled_line dialect)) (written_lines code) in
+    let x = written_line dialect line (10 ∷ rest) in
+    let qs = flat_map (going ends_lines (spelled_line dialect)) (written_lines dialect code) in
     let ts = tokens_of dialect (10 ∷ (line_text line ++ rest)) in
     let h = Spell-append (going ends_lines (spelled_line dialect) x) (qs ++ ahead ends_lines ∷ []) ts (tokens_of dialect (10 ∷ rest)) (tokens_of dialect (10 ∷ [])) (line_spelled dialect ds line rest all.0) (lines_spelled dialect ds code all.1) in
     subst (λ (ps : List Part). Spell ps ts (tokens_of dialect (10 ∷ []))) (sym (append_assoc (going ends_lines (spelled_line dialect) x) qs (ahead ends_lines ∷ []))) h

@@ -1,5 +1,5 @@
 -- The listing of a literal is read as the literal.
-use Rattle.std.proofs.Common.{◌≡◌, ℕ, suc, ◌*◌, ◌≤◌, true, false, eqb, ltb, leb, List, [], ◌∷◌, ◌++◌, length, Option, Some, refl, sym, ap, ◌∙◌, arith}
+use Rattle.std.proofs.Common.{◌≡◌, ℕ, suc, ◌*◌, ◌^◌, ◌≤◌, true, false, eqb, ltb, leb, List, [], ◌∷◌, ◌++◌, length, Option, Some, refl, sym, ap, ◌∙◌, arith}
 use Rattle.std.specs.Prelude.{ℤ, pos, negsuc, codes, option_map}
 use Rattle.std.specs.List.{list_all, prefix_len}
 use Rattle.std.specs.Option.{option_and_then}
@@ -22,6 +22,9 @@ use Rattle.il_real.specs.Literals.{real_literal}
 use Rattle.il_real.specs.Texts.{real_text}
 use Rattle.il_real.proofs.Texts.{reads_back}
 use Rattle.il_model.proofs.LiteralLaws.{IsValue}
+use Rattle.il_model.specs.BitStrings.{hex_word, hex_double}
+use Rattle.il_model.proofs.BitValues.{bits_small}
+use Rattle.laws_listing.proofs.BitTexts.{word_whole, double_word_whole}
 use Rattle.il_lister.specs.Listing.{decimal, number_text, literal_text}
 use Rattle.laws_listing.proofs.Fronts.{both_true, prefix_whole, all_weaker}
 use Rattle.laws_listing.proofs.Sayable.{newest, IsSayable}
@@ -125,6 +128,8 @@ literal_plain (values.Dint z) is = behind_dint (number_text z) ∙ ap (typed_lit
 literal_plain (values.Lint z) is = behind_lint (number_text z) ∙ ap (typed_literal types.Lint) (whole_number z) ∙ ap (option_map Typed) is.value
 literal_plain (values.Time z) is = behind_time (number_text z ++ ms) ∙ ap (typed_literal types.Time) (time_number z) ∙ ap (option_map Typed) is.value
 literal_plain (values.Real r) is = let known = is.known in absurd cc
+literal_plain (values.Word n) is = let known = is.known in absurd cc
+literal_plain (values.Dword n) is = let known = is.known in absurd cc
 
 -- ---- literals of extended texts
 
@@ -149,6 +154,14 @@ behind_real : (t : List ℕ) → extended_literal_of (codes "REAL#" ++ t) ≡ ty
 unfolding spells
 behind_real t = let e : ltb 4 (length (codes "REAL#" ++ t)) ≡ true = lt-ltb 4 (length (codes "REAL#" ++ t)) (omega arith) in rw e refl
 
+behind_word : (t : List ℕ) → extended_literal_of (codes "WORD#" ++ t) ≡ typed_literal types.Word (whole_by integer_of t)
+unfolding spells
+behind_word t = let e : ltb 4 (length (codes "WORD#" ++ t)) ≡ true = lt-ltb 4 (length (codes "WORD#" ++ t)) (omega arith) in rw e refl
+
+behind_double_word : (t : List ℕ) → extended_literal_of (codes "DWORD#" ++ t) ≡ typed_literal types.Dword (whole_by integer_of t)
+unfolding spells
+behind_double_word t = let e : ltb 5 (length (codes "DWORD#" ++ t)) ≡ true = lt-ltb 5 (length (codes "DWORD#" ++ t)) (omega arith) in rw e refl
+
 -- what plain texts can say
 said_plainly : (v : Value) → IsValue v → may_keep (newest dialects.Plain) v ≡ true → literal_of (literal_text v) ≡ Some (Typed v)
 said_plainly v value known = literal_plain v (record { value = value; known = known })
@@ -161,6 +174,8 @@ literal_extended (values.Dint z) is = extended_dint (number_text z) ∙ said_pla
 literal_extended (values.Lint z) is = extended_lint (number_text z) ∙ said_plainly (values.Lint z) is refl
 literal_extended (values.Time z) is = extended_time (number_text z ++ ms) ∙ said_plainly (values.Time z) is refl
 literal_extended (values.Real r) is = behind_real (real_text r) ∙ ap typed_real (reads_back r)
+literal_extended (values.Word n) is = behind_word (codes "16#" ++ hex_word n) ∙ ap (typed_literal types.Word) (word_whole n (bits_small (2 ^ 16) values.Word n (values.Word n) is)) ∙ ap (option_map Typed) is
+literal_extended (values.Dword n) is = behind_double_word (codes "16#" ++ hex_double n) ∙ ap (typed_literal types.Dword) (double_word_whole n (bits_small (2 ^ 32) values.Dword n (values.Dword n) is)) ∙ ap (option_map Typed) is
 
 -- ---- the whole
 

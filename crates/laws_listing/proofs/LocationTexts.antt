@@ -6,19 +6,19 @@ use Rattle.std.proofs.Math.Seq.{take-append_seam, drop-append-add}
 use Rattle.il_model.specs.declared.program.Area.{Area}
 use Rattle.il_model.specs.declared.program.Area.TheVariants as areas
 use Rattle.il_model.specs.declared.program.Loc.{Loc}
-use Rattle.il_model.specs.declared.program.Loc.TheVariants.{Bit, Word, Double}
+use Rattle.il_model.specs.declared.program.Loc.TheVariants.{Bit, Word, Pattern, Double}
 use Rattle.il_model.specs.declared.program.DoubleType.{DoubleType}
 use Rattle.il_model.specs.declared.program.DoubleType.TheVariants as doubles
-use Rattle.il_model.specs.declared.value.Ty.TheVariants as types
 use Rattle.il_model.specs.declared.dialect.Dialect.{Dialect}
 use Rattle.il_model.specs.declared.dialect.Dialect.TheVariants as dialects
 use Rattle.il_model.specs.declared.codes.Version.TheVariants as versions
 use Rattle.il_model.specs.Literals.{are_digits, integer_of}
-use Rattle.il_model.specs.Locations.{begins_double, is_no_dot, dot_at, bit_of, bit_at, word_at, double_at, location_of, or_double, extended_location_of, seen_as}
+use Rattle.il_model.specs.Locations.{begins_double, is_no_dot, dot_at, bit_of, bit_at, word_at, double_at, location_of, or_double, extended_location_of}
 use Rattle.il_model.specs.Dialects.{location_in}
 use Rattle.il_model.specs.Image.{location_version, may_have}
 use Rattle.il_model.specs.CodedOperands.{IsCell}
 use Rattle.il_lister.specs.Listing.{decimal, location_text}
+use Rattle.il_model.proofs.WrittenLocations.{text_loc}
 use Rattle.laws_listing.proofs.Fronts.{prefix_whole, all_weaker}
 use Rattle.laws_listing.proofs.Numerals.{is_digit, IsNumeral, numeral}
 use Rattle.laws_listing.proofs.LiteralTexts.{digit_is_not}
@@ -73,6 +73,7 @@ plain_again (Bit areas.Memory n) lt e = bit_whole areas.Memory n lt
 plain_again (Word areas.Input n) lt e = word_again areas.Input n lt
 plain_again (Word areas.Output n) lt e = word_again areas.Output n lt
 plain_again (Word areas.Memory n) lt e = word_again areas.Memory n lt
+plain_again (Pattern a n) lt e = absurd cc
 plain_again (Double a n t) lt e = absurd cc
 
 double_text_again : (area : Area) (n : ℕ) (t : DoubleType) → begins_double n ≡ true → extended_location_of (location_text (Double area n t)) ≡ Some (Double area n doubles.Dint)
@@ -80,11 +81,19 @@ double_text_again areas.Input n t begins = ap (or_double (location_text (Double 
 double_text_again areas.Output n t begins = ap (or_double (location_text (Double areas.Output n t))) (no_bit_there areas.Output (decimal n)) ∙ double_again areas.Output n begins
 double_text_again areas.Memory n t begins = ap (or_double (location_text (Double areas.Memory n t))) (no_bit_there areas.Memory (decimal n)) ∙ double_again areas.Memory n begins
 
--- a double word is read as DINT
-pub location_again : (dialect : Dialect) (loc : Loc) → IsCell loc → may_have (newest dialect) (location_version loc) ≡ true → location_in dialect (location_text loc) ≡ Some (seen_as types.Dint loc)
+-- a pattern has the text of its word
+word_text_again : (area : Area) (n : ℕ) → n < 64 → location_of (location_text (Pattern area n)) ≡ Some (Word area n)
+word_text_again areas.Input n lt = word_again areas.Input n lt
+word_text_again areas.Output n lt = word_again areas.Output n lt
+word_text_again areas.Memory n lt = word_again areas.Memory n lt
+
+-- a word is read as INT, a double word as DINT
+pub location_again : (dialect : Dialect) (loc : Loc) → IsCell loc → may_have (newest dialect) (location_version loc) ≡ true → location_in dialect (location_text loc) ≡ Some (text_loc loc)
 location_again dialects.Plain (Bit a n) lt may = plain_again (Bit a n) lt refl
 location_again dialects.Plain (Word a n) lt may = plain_again (Word a n) lt refl
+location_again dialects.Plain (Pattern a n) lt may = absurd cc
 location_again dialects.Plain (Double a n t) lt may = absurd cc
 location_again dialects.Extended (Bit a n) lt may = ap (or_double (location_text (Bit a n))) (plain_again (Bit a n) lt refl)
 location_again dialects.Extended (Word a n) lt may = ap (or_double (location_text (Word a n))) (plain_again (Word a n) lt refl)
+location_again dialects.Extended (Pattern a n) lt may = ap (or_double (location_text (Pattern a n))) (word_text_again a n lt)
 location_again dialects.Extended (Double a n t) begins may = double_text_again a n t begins

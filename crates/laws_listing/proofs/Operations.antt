@@ -21,82 +21,82 @@ use Rattle.il_model.specs.Codes.{usage_of, allows, has_form, allowed_by, formed_
 use Rattle.il_reader.specs.declared.operations.Form.TheVariants as forms
 use Rattle.il_reader.specs.declared.contents.Operator.{Operator}
 use Rattle.il_reader.specs.declared.lexeme.Sign.TheVariants as signs
-use Rattle.il_reader.specs.Tokens.{Token, is_word_end, tokens_behind, piece_of, tokens_of}
+use Rattle.il_reader.specs.Tokens.{Token, tokens_behind, piece_of, tokens_of}
 use Rattle.il_reader.specs.Front.{is_sign, is_end, is_word_token, next_is}
 use Rattle.il_reader.specs.Grammar.{no_dot, no_open, is_line_stop, form_of, operator_of, is_label, is_no_label, block_word, BehindText}
 use Rattle.il_reader.specs.Spelling.{ahead, Spell, accepts, operator_before, spelled_operand, spelled_behind, spelled_operation}
 use Rattle.il_lister.specs.Listing.{letter, operand_text, behind_text, arguments_text, operation_text}
 use Rattle.laws_listing.proofs.Fronts.{both_true, not_true}
-use Rattle.laws_listing.proofs.NameTexts.{IsFreeName, capital, spelled_is}
+use Rattle.laws_listing.proofs.NameTexts.{IsFreeName, capital_word, spelled_is}
 use Rattle.laws_listing.proofs.OperatorTexts.{letters, operator_word, is_word_op, mnemonic, IsOperatorWord, operator_again}
 use Rattle.laws_listing.proofs.Listable.{IsListedOperand, IsListedArgument, IsListedLine}
 use Rattle.laws_listing.proofs.Written.{token_at, written_operand, written_value, written_absent, written_behind, written_operation}
 use Rattle.laws_listing.proofs.Resolves.{instr, no_args, is_instance, lone_args, label_closed, instance_closed}
-use Rattle.laws_listing.proofs.Pieces.{EndsOperand, name_token, blank_skips, open_token, close_token}
+use Rattle.laws_listing.proofs.Pieces.{is_name_end, EndsOperand, name_token, word_token, blank_skips, open_token, close_token}
 use Rattle.laws_listing.proofs.Parts.{Begins, spell_same, spell_this, spell_one, spell_operator}
 use Rattle.laws_listing.proofs.Arguments.{arguments_end, IsSpelledValue, value_spelled, call_spelled}
 
 -- ---- what an operator takes
 
-operand_takes : (b : Bool) (o : Operand) (args : List Argument) (rest : List ℕ) → b ≡ false → has_form usages.Value b o ≡ true → accepts forms.Operand (written_behind b o args rest) ≡ true
-operand_takes true o args rest e f = absurd cc
-operand_takes false operands.Absent args rest e f = absurd cc
-operand_takes false (operands.Literal v) args rest e f = refl
-operand_takes false (operands.Bare z) args rest e f = absurd cc
-operand_takes false (operands.Variable w) args rest e f = refl
-operand_takes false (operands.Direct loc) args rest e f = refl
-operand_takes false (operands.Label w) args rest e f = absurd cc
-operand_takes false (operands.Field w field) args rest e f = refl
-operand_takes false (operands.Instance w) args rest e f = absurd cc
+operand_takes : (dialect : Dialect) (b : Bool) (o : Operand) (args : List Argument) (rest : List ℕ) → b ≡ false → has_form usages.Value b o ≡ true → accepts forms.Operand (written_behind dialect b o args rest) ≡ true
+operand_takes dialect true o args rest e f = absurd cc
+operand_takes dialect false operands.Absent args rest e f = absurd cc
+operand_takes dialect false (operands.Literal v) args rest e f = refl
+operand_takes dialect false (operands.Bare z) args rest e f = absurd cc
+operand_takes dialect false (operands.Variable w) args rest e f = refl
+operand_takes dialect false (operands.Direct loc) args rest e f = refl
+operand_takes dialect false (operands.Label w) args rest e f = absurd cc
+operand_takes dialect false (operands.Field w field) args rest e f = refl
+operand_takes dialect false (operands.Instance w) args rest e f = absurd cc
 
-either_takes : (b : Bool) (o : Operand) (args : List Argument) (rest : List ℕ) → has_form usages.Value b o ≡ true → accepts forms.Either (written_behind b o args rest) ≡ true
-either_takes true operands.Absent args rest f = refl
-either_takes false operands.Absent args rest f = absurd cc
-either_takes true (operands.Literal v) args rest f = refl
-either_takes false (operands.Literal v) args rest f = refl
-either_takes true (operands.Bare z) args rest f = absurd cc
-either_takes false (operands.Bare z) args rest f = absurd cc
-either_takes true (operands.Variable w) args rest f = refl
-either_takes false (operands.Variable w) args rest f = refl
-either_takes true (operands.Direct loc) args rest f = refl
-either_takes false (operands.Direct loc) args rest f = refl
-either_takes true (operands.Label w) args rest f = absurd cc
-either_takes false (operands.Label w) args rest f = absurd cc
-either_takes true (operands.Field w field) args rest f = refl
-either_takes false (operands.Field w field) args rest f = refl
-either_takes true (operands.Instance w) args rest f = absurd cc
-either_takes false (operands.Instance w) args rest f = absurd cc
+either_takes : (dialect : Dialect) (b : Bool) (o : Operand) (args : List Argument) (rest : List ℕ) → has_form usages.Value b o ≡ true → accepts forms.Either (written_behind dialect b o args rest) ≡ true
+either_takes dialect true operands.Absent args rest f = refl
+either_takes dialect false operands.Absent args rest f = absurd cc
+either_takes dialect true (operands.Literal v) args rest f = refl
+either_takes dialect false (operands.Literal v) args rest f = refl
+either_takes dialect true (operands.Bare z) args rest f = absurd cc
+either_takes dialect false (operands.Bare z) args rest f = absurd cc
+either_takes dialect true (operands.Variable w) args rest f = refl
+either_takes dialect false (operands.Variable w) args rest f = refl
+either_takes dialect true (operands.Direct loc) args rest f = refl
+either_takes dialect false (operands.Direct loc) args rest f = refl
+either_takes dialect true (operands.Label w) args rest f = absurd cc
+either_takes dialect false (operands.Label w) args rest f = absurd cc
+either_takes dialect true (operands.Field w field) args rest f = refl
+either_takes dialect false (operands.Field w field) args rest f = refl
+either_takes dialect true (operands.Instance w) args rest f = absurd cc
+either_takes dialect false (operands.Instance w) args rest f = absurd cc
 
-nothing_takes : (b : Bool) (o : Operand) (args : List Argument) (rest : List ℕ) → b ≡ false → has_form usages.Absent b o ≡ true → accepts forms.Nothing (written_behind b o args rest) ≡ true
-nothing_takes true o args rest e f = absurd cc
-nothing_takes false operands.Absent args rest e f = refl
-nothing_takes false (operands.Literal v) args rest e f = absurd cc
-nothing_takes false (operands.Bare z) args rest e f = absurd cc
-nothing_takes false (operands.Variable w) args rest e f = absurd cc
-nothing_takes false (operands.Direct loc) args rest e f = absurd cc
-nothing_takes false (operands.Label w) args rest e f = absurd cc
-nothing_takes false (operands.Field w field) args rest e f = absurd cc
-nothing_takes false (operands.Instance w) args rest e f = absurd cc
+nothing_takes : (dialect : Dialect) (b : Bool) (o : Operand) (args : List Argument) (rest : List ℕ) → b ≡ false → has_form usages.Absent b o ≡ true → accepts forms.Nothing (written_behind dialect b o args rest) ≡ true
+nothing_takes dialect true o args rest e f = absurd cc
+nothing_takes dialect false operands.Absent args rest e f = refl
+nothing_takes dialect false (operands.Literal v) args rest e f = absurd cc
+nothing_takes dialect false (operands.Bare z) args rest e f = absurd cc
+nothing_takes dialect false (operands.Variable w) args rest e f = absurd cc
+nothing_takes dialect false (operands.Direct loc) args rest e f = absurd cc
+nothing_takes dialect false (operands.Label w) args rest e f = absurd cc
+nothing_takes dialect false (operands.Field w field) args rest e f = absurd cc
+nothing_takes dialect false (operands.Instance w) args rest e f = absurd cc
 
-label_takes : (b : Bool) (o : Operand) (args : List Argument) (rest : List ℕ) → has_form usages.Label b o ≡ true → accepts forms.Label (written_behind b o args rest) ≡ true
-label_takes b operands.Absent args rest f = absurd cc
-label_takes b (operands.Literal v) args rest f = absurd cc
-label_takes b (operands.Bare z) args rest f = absurd cc
-label_takes b (operands.Variable w) args rest f = absurd cc
-label_takes b (operands.Direct loc) args rest f = absurd cc
-label_takes b (operands.Label w) args rest f = refl
-label_takes b (operands.Field w field) args rest f = absurd cc
-label_takes b (operands.Instance w) args rest f = absurd cc
+label_takes : (dialect : Dialect) (b : Bool) (o : Operand) (args : List Argument) (rest : List ℕ) → has_form usages.Label b o ≡ true → accepts forms.Label (written_behind dialect b o args rest) ≡ true
+label_takes dialect b operands.Absent args rest f = absurd cc
+label_takes dialect b (operands.Literal v) args rest f = absurd cc
+label_takes dialect b (operands.Bare z) args rest f = absurd cc
+label_takes dialect b (operands.Variable w) args rest f = absurd cc
+label_takes dialect b (operands.Direct loc) args rest f = absurd cc
+label_takes dialect b (operands.Label w) args rest f = refl
+label_takes dialect b (operands.Field w field) args rest f = absurd cc
+label_takes dialect b (operands.Instance w) args rest f = absurd cc
 
-call_takes : (b : Bool) (o : Operand) (args : List Argument) (rest : List ℕ) → has_form usages.Instance b o ≡ true → accepts forms.Call (written_behind b o args rest) ≡ true
-call_takes b operands.Absent args rest f = absurd cc
-call_takes b (operands.Literal v) args rest f = absurd cc
-call_takes b (operands.Bare z) args rest f = absurd cc
-call_takes b (operands.Variable w) args rest f = absurd cc
-call_takes b (operands.Direct loc) args rest f = absurd cc
-call_takes b (operands.Label w) args rest f = absurd cc
-call_takes b (operands.Field w field) args rest f = absurd cc
-call_takes b (operands.Instance w) args rest f = refl
+call_takes : (dialect : Dialect) (b : Bool) (o : Operand) (args : List Argument) (rest : List ℕ) → has_form usages.Instance b o ≡ true → accepts forms.Call (written_behind dialect b o args rest) ≡ true
+call_takes dialect b operands.Absent args rest f = absurd cc
+call_takes dialect b (operands.Literal v) args rest f = absurd cc
+call_takes dialect b (operands.Bare z) args rest f = absurd cc
+call_takes dialect b (operands.Variable w) args rest f = absurd cc
+call_takes dialect b (operands.Direct loc) args rest f = absurd cc
+call_takes dialect b (operands.Label w) args rest f = absurd cc
+call_takes dialect b (operands.Field w field) args rest f = absurd cc
+call_takes dialect b (operands.Instance w) args rest f = refl
 
 n_closed : (m : Modifier) → allows sets.N m ≡ true → m.opens ≡ false
 n_closed m e = not_true m.opens (both_true (not m.conditional) (not m.opens) e).1
@@ -107,38 +107,39 @@ none_closed m e = not_true m.opens (both_true (not m.negated && not m.conditiona
 c_closed : (m : Modifier) → allows sets.C m ≡ true → m.opens ≡ false
 c_closed m e = not_true m.opens (both_true (m.conditional || not m.negated) (not m.opens) e).1
 
-takes : (op : Op) (m : Modifier) (o : Operand) (args : List Argument) (rest : List ℕ) → allowed_by (usage_of op) m ≡ true → formed_by (usage_of op) m o ≡ true → accepts (form_of op) (written_behind m.opens o args rest) ≡ true
-takes ops.Empty m o args rest a f = nothing_takes m.opens o args rest (none_closed m a) f
-takes ops.Ld m o args rest a f = operand_takes m.opens o args rest (n_closed m a) f
-takes ops.St m o args rest a f = operand_takes m.opens o args rest (n_closed m a) f
-takes ops.S m o args rest a f = operand_takes m.opens o args rest (none_closed m a) f
-takes ops.R m o args rest a f = operand_takes m.opens o args rest (none_closed m a) f
-takes ops.And m o args rest a f = either_takes m.opens o args rest f
-takes ops.Or m o args rest a f = either_takes m.opens o args rest f
-takes ops.Xor m o args rest a f = either_takes m.opens o args rest f
-takes ops.Not m o args rest a f = nothing_takes m.opens o args rest (none_closed m a) f
-takes ops.Add m o args rest a f = either_takes m.opens o args rest f
-takes ops.Sub m o args rest a f = either_takes m.opens o args rest f
-takes ops.Min m o args rest a f = either_takes m.opens o args rest f
-takes ops.Max m o args rest a f = either_takes m.opens o args rest f
-takes ops.Mul m o args rest a f = either_takes m.opens o args rest f
-takes ops.Div m o args rest a f = either_takes m.opens o args rest f
-takes ops.Mod m o args rest a f = either_takes m.opens o args rest f
-takes ops.Gt m o args rest a f = either_takes m.opens o args rest f
-takes ops.Ge m o args rest a f = either_takes m.opens o args rest f
-takes ops.Eq m o args rest a f = either_takes m.opens o args rest f
-takes ops.Ne m o args rest a f = either_takes m.opens o args rest f
-takes ops.Le m o args rest a f = either_takes m.opens o args rest f
-takes ops.Lt m o args rest a f = either_takes m.opens o args rest f
-takes ops.Jmp m o args rest a f = label_takes m.opens o args rest f
-takes ops.Cal m o args rest a f = call_takes m.opens o args rest f
-takes ops.Ret m o args rest a f = nothing_takes m.opens o args rest (c_closed m a) f
-takes ops.Close m o args rest a f = nothing_takes m.opens o args rest (none_closed m a) f
-takes ops.IntToDint m o args rest a f = nothing_takes m.opens o args rest (none_closed m a) f
-takes ops.DintToInt m o args rest a f = nothing_takes m.opens o args rest (none_closed m a) f
-takes ops.DintToLint m o args rest a f = nothing_takes m.opens o args rest (none_closed m a) f
-takes ops.LintToDint m o args rest a f = nothing_takes m.opens o args rest (none_closed m a) f
-takes (ops.Apply g) m o args rest a f = nothing_takes m.opens o args rest (none_closed m a) f
+takes : (dialect : Dialect) (op : Op) (m : Modifier) (o : Operand) (args : List Argument) (rest : List ℕ) → allowed_by (usage_of op) m ≡ true → formed_by (usage_of op) m o ≡ true → accepts (form_of op) (written_behind dialect m.opens o args rest) ≡ true
+takes dialect ops.Empty m o args rest a f = nothing_takes dialect m.opens o args rest (none_closed m a) f
+takes dialect ops.Ld m o args rest a f = operand_takes dialect m.opens o args rest (n_closed m a) f
+takes dialect ops.St m o args rest a f = operand_takes dialect m.opens o args rest (n_closed m a) f
+takes dialect ops.S m o args rest a f = operand_takes dialect m.opens o args rest (none_closed m a) f
+takes dialect ops.R m o args rest a f = operand_takes dialect m.opens o args rest (none_closed m a) f
+takes dialect ops.And m o args rest a f = either_takes dialect m.opens o args rest f
+takes dialect ops.Or m o args rest a f = either_takes dialect m.opens o args rest f
+takes dialect ops.Xor m o args rest a f = either_takes dialect m.opens o args rest f
+takes dialect ops.Not m o args rest a f = nothing_takes dialect m.opens o args rest (none_closed m a) f
+takes dialect ops.Add m o args rest a f = either_takes dialect m.opens o args rest f
+takes dialect ops.Sub m o args rest a f = either_takes dialect m.opens o args rest f
+takes dialect ops.Min m o args rest a f = either_takes dialect m.opens o args rest f
+takes dialect ops.Max m o args rest a f = either_takes dialect m.opens o args rest f
+takes dialect ops.Mul m o args rest a f = either_takes dialect m.opens o args rest f
+takes dialect ops.Div m o args rest a f = either_takes dialect m.opens o args rest f
+takes dialect ops.Mod m o args rest a f = either_takes dialect m.opens o args rest f
+takes dialect ops.Gt m o args rest a f = either_takes dialect m.opens o args rest f
+takes dialect ops.Ge m o args rest a f = either_takes dialect m.opens o args rest f
+takes dialect ops.Eq m o args rest a f = either_takes dialect m.opens o args rest f
+takes dialect ops.Ne m o args rest a f = either_takes dialect m.opens o args rest f
+takes dialect ops.Le m o args rest a f = either_takes dialect m.opens o args rest f
+takes dialect ops.Lt m o args rest a f = either_takes dialect m.opens o args rest f
+takes dialect ops.Jmp m o args rest a f = label_takes dialect m.opens o args rest f
+takes dialect ops.Cal m o args rest a f = call_takes dialect m.opens o args rest f
+takes dialect ops.Ret m o args rest a f = nothing_takes dialect m.opens o args rest (c_closed m a) f
+takes dialect ops.Close m o args rest a f = nothing_takes dialect m.opens o args rest (none_closed m a) f
+takes dialect ops.IntToDint m o args rest a f = nothing_takes dialect m.opens o args rest (none_closed m a) f
+takes dialect ops.DintToInt m o args rest a f = nothing_takes dialect m.opens o args rest (none_closed m a) f
+takes dialect ops.DintToLint m o args rest a f = nothing_takes dialect m.opens o args rest (none_closed m a) f
+takes dialect ops.LintToDint m o args rest a f = nothing_takes dialect m.opens o args rest (none_closed m a) f
+takes dialect (ops.Apply g) m o args rest a f = nothing_takes dialect m.opens o args rest (none_closed m a) f
+takes dialect (ops.Shift s) m o args rest a f = operand_takes dialect m.opens o args rest (none_closed m a) f
 
 -- ---- behind an operator, before a line end
 
@@ -147,9 +148,9 @@ abbrev pub behind_at : Bool → Operand → List Argument → List ℕ → List 
 behind_at b o args rest = letter b (codes "(") ++ (behind_text o ++ (arguments_text args ++ rest))
 
 record IsSpelledBehind (dialect : Dialect) (b : Bool) (o : Operand) (args : List Argument) (rest : List ℕ) : Type 0 where
-  spelled : Spell (spelled_behind (written_behind b o args rest)) (tokens_of dialect (behind_at b o args rest)) (tokens_of dialect rest)
+  spelled : Spell (spelled_behind (written_behind dialect b o args rest)) (tokens_of dialect (behind_at b o args rest)) (tokens_of dialect rest)
   no_colon : next_is signs.Colon (tokens_of dialect (behind_at b o args rest)) ≡ false
-  ends : is_word_end (behind_at b o args rest) ≡ true
+  ends : is_name_end (behind_at b o args rest) ≡ true
 
 abbrev line_end : List ℕ → List ℕ
 line_end rest = 10 ∷ rest
@@ -186,29 +187,29 @@ absent_behind dialect false rest = record { spelled = refl; no_colon = colon_non
 
 -- a blank and an operand, in a parenthesis that is left open or not
 record IsSpelledGiven (dialect : Dialect) (b : Bool) (o : Operand) (rest : List ℕ) : Type 0 where
-  spelled : Spell (spelled_behind (written_value b (written_operand o rest))) (tokens_of dialect (letter b (codes "(") ++ (32 ∷ (operand_text o ++ rest)))) (tokens_of dialect rest)
+  spelled : Spell (spelled_behind (written_value b (written_operand dialect o rest))) (tokens_of dialect (letter b (codes "(") ++ (32 ∷ (operand_text o ++ rest)))) (tokens_of dialect rest)
   no_colon : next_is signs.Colon (tokens_of dialect (letter b (codes "(") ++ (32 ∷ (operand_text o ++ rest)))) ≡ false
-  ends : is_word_end (letter b (codes "(") ++ (32 ∷ (operand_text o ++ rest))) ≡ true
+  ends : is_name_end (letter b (codes "(") ++ (32 ∷ (operand_text o ++ rest))) ≡ true
 
 given_behind : (dialect : Dialect) (b : Bool) (o : Operand) (rest : List ℕ) → IsSpelledValue dialect o (line_end rest) → IsSpelledGiven dialect b o (line_end rest)
 given_behind dialect true o rest is =
     let u = operand_text o ++ line_end rest in
     let e = open_token dialect (32 ∷ u) refl in
-    let s = spell_same (spelled_operand (written_operand o (line_end rest))) (tokens_of dialect (32 ∷ u)) (tokens_of dialect u) (tokens_of dialect (line_end rest)) (blank_skips dialect u) (is.plain (closes_word dialect rest)) in
+    let s = spell_same (spelled_operand (written_operand dialect o (line_end rest))) (tokens_of dialect (32 ∷ u)) (tokens_of dialect u) (tokens_of dialect (line_end rest)) (blank_skips dialect u) (is.plain (closes_word dialect rest)) in
     record {
-      spelled = spell_one (is_sign signs.Open) (token_at signs.Open (40 ∷ []) (32 ∷ u)) (spelled_operand (written_operand o (line_end rest))) (tokens_of dialect (40 ∷ 32 ∷ u)) (tokens_of dialect (32 ∷ u)) (tokens_of dialect (line_end rest)) e refl s;
+      spelled = spell_one (is_sign signs.Open) (token_at signs.Open (40 ∷ []) (32 ∷ u)) (spelled_operand (written_operand dialect o (line_end rest))) (tokens_of dialect (40 ∷ 32 ∷ u)) (tokens_of dialect (32 ∷ u)) (tokens_of dialect (line_end rest)) e refl s;
       no_colon = ap (next_is signs.Colon) e;
       ends = refl;
     }
 given_behind dialect false o rest is =
     let u = operand_text o ++ line_end rest in
     record {
-      spelled = spell_same (spelled_operand (written_operand o (line_end rest))) (tokens_of dialect (32 ∷ u)) (tokens_of dialect u) (tokens_of dialect (line_end rest)) (blank_skips dialect u) (is.plain (closes_word dialect rest));
+      spelled = spell_same (spelled_operand (written_operand dialect o (line_end rest))) (tokens_of dialect (32 ∷ u)) (tokens_of dialect u) (tokens_of dialect (line_end rest)) (blank_skips dialect u) (is.plain (closes_word dialect rest));
       no_colon = ap (next_is signs.Colon) (blank_skips dialect u ∙ is.begins.is) ∙ is.no_colon;
       ends = refl;
     }
 
-label_behind : (dialect : Dialect) (w rest : List ℕ) → IsFreeName w → IsSpelledBehind dialect false (operands.Label w) [] (line_end rest)
+label_behind : (dialect : Dialect) (w rest : List ℕ) → IsFreeName dialect w → IsSpelledBehind dialect false (operands.Label w) [] (line_end rest)
 label_behind dialect w rest is =
     let u = w ++ line_end rest in
     let e = blank_skips dialect u ∙ name_token dialect w (line_end rest) is.name refl in
@@ -218,12 +219,12 @@ label_behind dialect w rest is =
       ends = refl;
     }
 
-instance_behind : (dialect : Dialect) (ds : Declarations) (w : List ℕ) (args : List Argument) (rest : List ℕ) → IsFreeName w → AllByRecursion (IsListedArgument dialect ds) args → IsSpelledBehind dialect false (operands.Instance w) args (line_end rest)
+instance_behind : (dialect : Dialect) (ds : Declarations) (w : List ℕ) (args : List Argument) (rest : List ℕ) → IsFreeName dialect w → AllByRecursion (IsListedArgument dialect ds) args → IsSpelledBehind dialect false (operands.Instance w) args (line_end rest)
 instance_behind dialect ds w args rest is all =
     let u = w ++ (arguments_text args ++ line_end rest) in
     let e = blank_skips dialect u ∙ name_token dialect w (arguments_text args ++ line_end rest) is.name (arguments_end args (line_end rest) refl) in
     record {
-      spelled = spell_same (spelled_behind (written_behind false (operands.Instance w) args (line_end rest))) (tokens_of dialect (32 ∷ u)) (tokens_of dialect u) (tokens_of dialect (line_end rest)) (blank_skips dialect u) (call_spelled dialect ds w args (line_end rest) is all (opens_none dialect rest) refl);
+      spelled = spell_same (spelled_behind (written_behind dialect false (operands.Instance w) args (line_end rest))) (tokens_of dialect (32 ∷ u)) (tokens_of dialect u) (tokens_of dialect (line_end rest)) (blank_skips dialect u) (call_spelled dialect ds w args (line_end rest) is all (opens_none dialect rest) refl);
       no_colon = ap (next_is signs.Colon) e;
       ends = refl;
     }
@@ -264,7 +265,7 @@ pub record IsSpelledOperation (dialect : Dialect) (line : Instr) (rest : List �
   pub no_end : is_end first ≡ false
   pub no_block : is_word_token (block_word dialect) first ≡ false
   pub no_label : is_no_label dialect (tokens_of dialect (operation_text line ++ rest)) ≡ true
-  pub spelled : Spell (spelled_operation dialect (written_operation line rest)) (tokens_of dialect (operation_text line ++ rest)) (tokens_of dialect rest)
+  pub spelled : Spell (spelled_operation dialect (written_operation dialect line rest)) (tokens_of dialect (operation_text line ++ rest)) (tokens_of dialect rest)
 
 operation_joined : (line : Instr) (rest : List ℕ) → operation_text line ++ rest ≡ operator_word line.op line.modifier ++ behind_at line.modifier.opens line.operand line.arguments rest
 operation_joined line rest = simp append_assoc refl
@@ -293,7 +294,7 @@ no_keyword dialect op m is = by_test (spells (block_word dialect) (operator_word
     by_test : (b : Bool) → spells (block_word dialect) (operator_word op m) ≡ b → b ≡ false
     by_test false e = refl
     by_test true e =
-        let same : operator_word op m ≡ block_word dialect = sym (capital (operator_word op m) is.name) ∙ spelled_is (block_word dialect) (operator_word op m) e in
+        let same : operator_word op m ≡ block_word dialect = sym (capital_word (operator_word op m) is.name) ∙ spelled_is (block_word dialect) (operator_word op m) e in
         let clash : None ≡ Some (mnemonic op m) = sym (no_mnemonic dialect) ∙ ap (operator_in dialect) (sym same) ∙ is.means in
         absurd cc
 
@@ -307,9 +308,9 @@ word_spelled dialect ds line rest is word =
     let t = token_at signs.Name (operator_word op m) u in
     let ts = tokens_of dialect (operation_text line ++ line_end rest) in
     let joined = operation_joined line (line_end rest) in
-    let e : ts ≡ t ∷ tokens_of dialect u = ap (tokens_of dialect) joined ∙ name_token dialect (operator_word op m) u o.name b.ends in
-    let x = written_behind m.opens line.operand line.arguments (line_end rest) in
-    let f = word_operator dialect op m x u o (takes op m line.operand line.arguments (line_end rest) is.letters is.form) ∙ ap (λ (n : ℕ). Some (operator_at op m n)) (sym (ap length joined)) in
+    let e : ts ≡ t ∷ tokens_of dialect u = ap (tokens_of dialect) joined ∙ word_token dialect (operator_word op m) u o.name b.ends in
+    let x = written_behind dialect m.opens line.operand line.arguments (line_end rest) in
+    let f = word_operator dialect op m x u o (takes dialect op m line.operand line.arguments (line_end rest) is.letters is.form) ∙ ap (λ (n : ℕ). Some (operator_at op m n)) (sym (ap length joined)) in
     record {
       first = t;
       more = tokens_of dialect u;
@@ -317,7 +318,7 @@ word_spelled dialect ds line rest is word =
       no_end = refl;
       no_block = no_keyword dialect op m o;
       no_label = no_label_word dialect ts (operator_word op m) u (tokens_of dialect u) e b.no_colon (ap is_none o.means);
-      spelled = spell_operator (operator_before dialect x) (written_operation line (line_end rest)).operator t (spelled_behind x) ts (tokens_of dialect u) (tokens_of dialect (line_end rest)) e f b.spelled;
+      spelled = spell_operator (operator_before dialect x) (written_operation dialect line (line_end rest)).operator t (spelled_behind x) ts (tokens_of dialect u) (tokens_of dialect (line_end rest)) e f b.spelled;
     }
 
 -- the right parenthesis
@@ -335,7 +336,7 @@ close_lone dialect label rest =
       no_end = refl;
       no_block = refl;
       no_label = ap (is_no_label dialect) e;
-      spelled = spell_operator (operator_before dialect (written_absent false)) (written_operation line (line_end rest)).operator t [] ts (tokens_of dialect (line_end rest)) (tokens_of dialect (line_end rest)) e refl refl;
+      spelled = spell_operator (operator_before dialect (written_absent false)) (written_operation dialect line (line_end rest)).operator t [] ts (tokens_of dialect (line_end rest)) (tokens_of dialect (line_end rest)) e refl refl;
     }
 
 close_spelled : (dialect : Dialect) (label : Option (List ℕ)) (n c b : Bool) (o : Operand) (args : List Argument) (rest : List ℕ) → allowed_by (usage_of ops.Close) (letters n c b) ≡ true → formed_by (usage_of ops.Close) (letters n c b) o ≡ true → args ≡ []

@@ -1,9 +1,10 @@
 -- The listing of a program that has an image is read as the same program.
-use Rattle.std.proofs.Common.{refl}
+use Rattle.std.proofs.Common.{◌≤◌, length, refl, sym, subst}
+use Rattle.il_model.specs.declared.dialect.Dialect.{Dialect}
 use Rattle.il_model.specs.Program.{Program}
 use Rattle.il_model.specs.Image.{version_of}
 use Rattle.il_model.specs.Fits.{IsImage}
-use Rattle.il_reader.specs.Texts.{SourceText}
+use Rattle.il_reader.specs.Texts.{SourceText, text_limit}
 use Rattle.il_lister.specs.Listing.{listing}
 use Rattle.il_declarations.proofs.FaultLaws.{found}
 use Rattle.laws_listing.specs.ReadBack.{ReadsBack}
@@ -23,7 +24,7 @@ reads_back Q is =
     let whole = found (source Q) Q resolved in
     record {
       source = source Q;
-      read = (refl, record { short = listing_short Q is; said = listing_says Q is });
+      read = (refl, record { short = subst (λ (d : Dialect). length (listing Q) ≤ text_limit d) (sym (listing_dialect Q)) (listing_short Q is); said = listing_says Q is });
       declared = whole.0;
       faultless = whole.1;
       settled = typed_settles Q is.typed;

@@ -5,6 +5,7 @@ use Rattle.std.specs.List.{AllByRecursion, flat_map}
 use Rattle.std.proofs.lemmas.List.{length-append, append-nil}
 use Rattle.std.proofs.lemmas.Bool.{lt-leb, eqb-true}
 use Rattle.il_model.specs.declared.dialect.Dialect.{Dialect}
+use Rattle.il_model.specs.declared.dialect.Dialect.TheVariants as dialects
 use Rattle.il_model.specs.declared.op.Op.{Op}
 use Rattle.il_model.specs.declared.op.Op.TheVariants as ops
 use Rattle.il_model.specs.declared.op.Modifier.{Modifier}
@@ -13,9 +14,10 @@ use Rattle.il_model.specs.declared.program.Operand.{Operand}
 use Rattle.il_model.specs.declared.program.Operand.TheVariants as operands
 use Rattle.il_model.specs.declared.program.Instr.{Instr}
 use Rattle.il_model.specs.Program.{Declarations}
+use Rattle.il_model.specs.Words.{under}
 use Rattle.il_model.specs.Codes.{usage_of, allowed_by, formed_by, is_call, is_empty}
 use Rattle.il_reader.specs.declared.lexeme.Sign.TheVariants as signs
-use Rattle.il_reader.specs.Grammar.{BehindText}
+use Rattle.il_reader.specs.Grammar.{Field, BehindText}
 use Rattle.il_declarations.specs.declared.fault.FaultAt.{FaultAt}
 use Rattle.il_declarations.specs.Resolution.{opens, plain}
 use Rattle.il_declarations.specs.Walk.{each, operand_of, behind_of, behind_arguments, argument_of, pushed_argument, instruction_of, room, label_of, instruct_labelled, instruct_plain, instruct}
@@ -25,23 +27,36 @@ use Rattle.laws_listing.proofs.LiteralTexts.{literal_again}
 use Rattle.laws_listing.proofs.LocationTexts.{location_again}
 use Rattle.il_model.proofs.WrittenLocations.{named_seen}
 use Rattle.laws_listing.proofs.OperatorTexts.{letters}
-use Rattle.laws_listing.proofs.NameTexts.{IsFreeName, capital}
+use Rattle.laws_listing.proofs.NameRuns.{part_says, no_dots, split_under}
+use Rattle.laws_listing.proofs.NameTexts.{IsFreeName, capital, capital_word, under_free}
 use Rattle.laws_listing.proofs.Listable.{IsValueOperand, IsListedOperand, IsListedArgument, IsListedLabel, IsListedLine}
-use Rattle.laws_listing.proofs.Written.{token_at, written_operand, written_argument, written_all, written_value, written_absent, written_behind, written_operation, unless_empty, colon_text, labelled_line, written_lines}
+use Rattle.laws_listing.proofs.Written.{token_at, is_long_field, dot_by, under_short, written_field, written_operand, written_argument, written_all, written_value, written_absent, written_behind, written_operation, unless_empty, colon_text, labelled_line, written_lines}
 
 -- ---- operands
 
-value_back : (dialect : Dialect) (ds : Declarations) (o : Operand) (rest : List ℕ) → IsValueOperand dialect ds o → operand_of dialect ds (written_operand o rest) ≡ Ok o
+-- the field of an instance in three tokens
+apart_back : (dialect : Dialect) (ds : Declarations) (name field behind rest : List ℕ) → IsValueOperand dialect ds (operands.Field name field) → operand_of dialect ds (Field (token_at signs.Name name behind) (token_at signs.Name field rest)) ≡ Ok (operands.Field name field)
+apart_back dialect ds name field behind rest is = rw (capital dialect name is.0.name, capital_word field is.1.name, is.2) refl
+
+field_back : (dialect : Dialect) (ds : Declarations) (long : Bool) (name field rest : List ℕ) → is_long_field name field ≡ long → IsValueOperand dialect ds (operands.Field name field) → operand_of dialect ds (written_field dialect long name field rest) ≡ Ok (operands.Field name field)
+field_back dialects.Plain ds long name field rest e is = apart_back dialects.Plain ds name field (dot_by long ++ (field ++ rest)) rest is
+field_back dialects.Extended ds true name field rest e is = apart_back dialects.Extended ds name field (dot_by true ++ (field ++ rest)) rest is
+field_back dialects.Extended ds false name field rest e is =
+    let whole = under_free name field is.0 is.1.name (under_short name field e) in
+    let plain = no_dots field (part_says field is.1.name.part).bytes in
+    rw (capital dialects.Extended (under name field) whole.name, is.3, split_under name field plain, is.2) refl
+
+value_back : (dialect : Dialect) (ds : Declarations) (o : Operand) (rest : List ℕ) → IsValueOperand dialect ds o → operand_of dialect ds (written_operand dialect o rest) ≡ Ok o
 value_back dialect ds operands.Absent rest is = absurd is
 value_back dialect ds (operands.Literal v) rest is = rw (literal_again dialect v is) refl
 value_back dialect ds (operands.Bare z) rest is = absurd is
-value_back dialect ds (operands.Variable name) rest is = rw (capital name is.0.name, is.1) refl
+value_back dialect ds (operands.Variable name) rest is = rw (capital dialect name is.0.name, is.1) refl
 value_back dialect ds (operands.Direct loc) rest is = rw (location_again dialect loc is.0 is.2, named_seen loc is.1) refl
 value_back dialect ds (operands.Label name) rest is = absurd is
-value_back dialect ds (operands.Field name field) rest is = rw (capital name is.0.name, capital field is.1.name, is.2) refl
+value_back dialect ds (operands.Field name field) rest is = field_back dialect ds (is_long_field name field) name field rest refl is
 value_back dialect ds (operands.Instance name) rest is = absurd is
 
-given_back : (dialect : Dialect) (ds : Declarations) (b : Bool) (o : Operand) (rest : List ℕ) → IsValueOperand dialect ds o → behind_of dialect ds (written_value b (written_operand o rest)) ≡ Ok o
+given_back : (dialect : Dialect) (ds : Declarations) (b : Bool) (o : Operand) (rest : List ℕ) → IsValueOperand dialect ds o → behind_of dialect ds (written_value b (written_operand dialect o rest)) ≡ Ok o
 given_back dialect ds true o rest is = value_back dialect ds o rest is
 given_back dialect ds false o rest is = value_back dialect ds o rest is
 
@@ -49,35 +64,35 @@ absent_back : (dialect : Dialect) (ds : Declarations) (b : Bool) → behind_of d
 absent_back dialect ds true = refl
 absent_back dialect ds false = refl
 
-behind_back : (dialect : Dialect) (ds : Declarations) (b : Bool) (o : Operand) (args : List Argument) (rest : List ℕ) → IsListedOperand dialect ds o → behind_of dialect ds (written_behind b o args rest) ≡ Ok o
+behind_back : (dialect : Dialect) (ds : Declarations) (b : Bool) (o : Operand) (args : List Argument) (rest : List ℕ) → IsListedOperand dialect ds o → behind_of dialect ds (written_behind dialect b o args rest) ≡ Ok o
 behind_back dialect ds b operands.Absent args rest is = absent_back dialect ds b
 behind_back dialect ds b (operands.Literal v) args rest is = given_back dialect ds b (operands.Literal v) rest is
 behind_back dialect ds b (operands.Bare z) args rest is = absurd is
 behind_back dialect ds b (operands.Variable name) args rest is = given_back dialect ds b (operands.Variable name) rest is
 behind_back dialect ds b (operands.Direct loc) args rest is = given_back dialect ds b (operands.Direct loc) rest is
-behind_back dialect ds b (operands.Label name) args rest is = rw (capital name is.name) refl
+behind_back dialect ds b (operands.Label name) args rest is = rw (capital dialect name is.name) refl
 behind_back dialect ds b (operands.Field name field) args rest is = given_back dialect ds b (operands.Field name field) rest is
-behind_back dialect ds b (operands.Instance name) args rest is = rw (capital name is.0.name, is.1) refl
+behind_back dialect ds b (operands.Instance name) args rest is = rw (capital dialect name is.0.name, is.1) refl
 
 -- ---- arguments
 
-argument_back : (dialect : Dialect) (ds : Declarations) (a : Argument) (rest : List ℕ) → IsListedArgument dialect ds a → argument_of dialect ds (written_argument a rest) ≡ Ok a
+argument_back : (dialect : Dialect) (ds : Declarations) (a : Argument) (rest : List ℕ) → IsListedArgument dialect ds a → argument_of dialect ds (written_argument dialect a rest) ≡ Ok a
 unfolding argument_of
-argument_back dialect ds a rest is = rw (value_back dialect ds a.operand rest is.operand, capital a.field is.field.name) refl
+argument_back dialect ds a rest is = rw (value_back dialect ds a.operand rest is.operand, capital_word a.field is.field.name) refl
 
-all_back : (dialect : Dialect) (ds : Declarations) (seen args : List Argument) (rest : List ℕ) → AllByRecursion (IsListedArgument dialect ds) args → each (pushed_argument dialect ds) seen (written_all args rest) ≡ Ok (seen ++ args)
+all_back : (dialect : Dialect) (ds : Declarations) (seen args : List Argument) (rest : List ℕ) → AllByRecursion (IsListedArgument dialect ds) args → each (pushed_argument dialect ds) seen (written_all dialect args rest) ≡ Ok (seen ++ args)
 unfolding each
 all_back dialect ds seen [] rest all = rw (append-nil seen) refl
 all_back dialect ds seen (a ∷ args) rest all =
     rw (argument_back dialect ds a (flat_map next_argument_text args ++ rest) all.0) (all_back dialect ds (seen ++ a ∷ []) args rest all.1 ∙ rw (append_assoc seen (a ∷ []) args) refl)
 
-call_back : (dialect : Dialect) (ds : Declarations) (name : List ℕ) (args : List Argument) (rest : List ℕ) → AllByRecursion (IsListedArgument dialect ds) args → behind_arguments dialect ds (written_behind false (operands.Instance name) args rest) ≡ Ok args
+call_back : (dialect : Dialect) (ds : Declarations) (name : List ℕ) (args : List Argument) (rest : List ℕ) → AllByRecursion (IsListedArgument dialect ds) args → behind_arguments dialect ds (written_behind dialect false (operands.Instance name) args rest) ≡ Ok args
 unfolding each
 call_back dialect ds name [] rest all = refl
 call_back dialect ds name (a ∷ args) rest all = all_back dialect ds [] (a ∷ args) (41 ∷ rest) all
 
 -- what is no call has no arguments
-no_call_back : (dialect : Dialect) (ds : Declarations) (b : Bool) (o : Operand) (rest : List ℕ) → behind_arguments dialect ds (written_value b (written_operand o rest)) ≡ Ok []
+no_call_back : (dialect : Dialect) (ds : Declarations) (b : Bool) (o : Operand) (rest : List ℕ) → behind_arguments dialect ds (written_value b (written_operand dialect o rest)) ≡ Ok []
 no_call_back dialect ds true o rest = refl
 no_call_back dialect ds false o rest = refl
 
@@ -111,14 +126,14 @@ lone_args dialect ds line is lone = no_args line.arguments (rw (not_call line.op
 none_back : (dialect : Dialect) (ds : Declarations) (x : BehindText) (args : List Argument) → args ≡ [] → behind_arguments dialect ds x ≡ Ok [] → behind_arguments dialect ds x ≡ Ok args
 none_back dialect ds x args e h = h ∙ ap (λ (xs : List Argument). let r : Result (List Argument) FaultAt = Ok xs in r) (sym e)
 
-given_args : (dialect : Dialect) (ds : Declarations) (b : Bool) (o : Operand) (args : List Argument) (rest : List ℕ) → (is_instance o ≡ false → args ≡ []) → AllByRecursion (IsListedArgument dialect ds) args → behind_arguments dialect ds (written_behind b o args rest) ≡ Ok args
+given_args : (dialect : Dialect) (ds : Declarations) (b : Bool) (o : Operand) (args : List Argument) (rest : List ℕ) → (is_instance o ≡ false → args ≡ []) → AllByRecursion (IsListedArgument dialect ds) args → behind_arguments dialect ds (written_behind dialect b o args rest) ≡ Ok args
 given_args dialect ds b operands.Absent args rest lone all = none_back dialect ds (written_absent b) args (lone refl) (absent_no_call dialect ds b)
-given_args dialect ds b (operands.Literal v) args rest lone all = none_back dialect ds (written_value b (written_operand (operands.Literal v) rest)) args (lone refl) (no_call_back dialect ds b (operands.Literal v) rest)
-given_args dialect ds b (operands.Bare z) args rest lone all = none_back dialect ds (written_value b (written_operand (operands.Bare z) rest)) args (lone refl) (no_call_back dialect ds b (operands.Bare z) rest)
-given_args dialect ds b (operands.Variable name) args rest lone all = none_back dialect ds (written_value b (written_operand (operands.Variable name) rest)) args (lone refl) (no_call_back dialect ds b (operands.Variable name) rest)
-given_args dialect ds b (operands.Direct loc) args rest lone all = none_back dialect ds (written_value b (written_operand (operands.Direct loc) rest)) args (lone refl) (no_call_back dialect ds b (operands.Direct loc) rest)
-given_args dialect ds b (operands.Label name) args rest lone all = none_back dialect ds (written_behind b (operands.Label name) args rest) args (lone refl) refl
-given_args dialect ds b (operands.Field name field) args rest lone all = none_back dialect ds (written_value b (written_operand (operands.Field name field) rest)) args (lone refl) (no_call_back dialect ds b (operands.Field name field) rest)
+given_args dialect ds b (operands.Literal v) args rest lone all = none_back dialect ds (written_value b (written_operand dialect (operands.Literal v) rest)) args (lone refl) (no_call_back dialect ds b (operands.Literal v) rest)
+given_args dialect ds b (operands.Bare z) args rest lone all = none_back dialect ds (written_value b (written_operand dialect (operands.Bare z) rest)) args (lone refl) (no_call_back dialect ds b (operands.Bare z) rest)
+given_args dialect ds b (operands.Variable name) args rest lone all = none_back dialect ds (written_value b (written_operand dialect (operands.Variable name) rest)) args (lone refl) (no_call_back dialect ds b (operands.Variable name) rest)
+given_args dialect ds b (operands.Direct loc) args rest lone all = none_back dialect ds (written_value b (written_operand dialect (operands.Direct loc) rest)) args (lone refl) (no_call_back dialect ds b (operands.Direct loc) rest)
+given_args dialect ds b (operands.Label name) args rest lone all = none_back dialect ds (written_behind dialect b (operands.Label name) args rest) args (lone refl) refl
+given_args dialect ds b (operands.Field name field) args rest lone all = none_back dialect ds (written_value b (written_operand dialect (operands.Field name field) rest)) args (lone refl) (no_call_back dialect ds b (operands.Field name field) rest)
 given_args dialect ds b (operands.Instance name) args rest lone all = call_back dialect ds name args rest all
 
 -- ---- operators
@@ -133,33 +148,33 @@ instance_closed op n c false name f a = refl
 instance_closed ops.Cal n c true name f a = let h = (both_true (c || not n) false a).1 in absurd cc
 instance_closed op n c true name f a = absurd cc
 
-value_opens : (b : Bool) (o : Operand) (rest : List ℕ) → opens (written_value b (written_operand o rest)) ≡ b
-value_opens true o rest = refl
-value_opens false o rest = refl
+value_opens : (dialect : Dialect) (b : Bool) (o : Operand) (rest : List ℕ) → opens (written_value b (written_operand dialect o rest)) ≡ b
+value_opens dialect true o rest = refl
+value_opens dialect false o rest = refl
 
 absent_opens : (b : Bool) → opens (written_absent b) ≡ b
 absent_opens true = refl
 absent_opens false = refl
 
-opens_back : (op : Op) (m : Modifier) (o : Operand) (args : List Argument) (rest : List ℕ) → formed_by (usage_of op) m o ≡ true → allowed_by (usage_of op) m ≡ true → opens (written_behind m.opens o args rest) ≡ m.opens
-opens_back op m operands.Absent args rest f a = absent_opens m.opens
-opens_back op m (operands.Literal v) args rest f a = value_opens m.opens (operands.Literal v) rest
-opens_back op m (operands.Bare z) args rest f a = value_opens m.opens (operands.Bare z) rest
-opens_back op m (operands.Variable name) args rest f a = value_opens m.opens (operands.Variable name) rest
-opens_back op m (operands.Direct loc) args rest f a = value_opens m.opens (operands.Direct loc) rest
-opens_back op m (operands.Label name) args rest f a = sym (label_closed op m.negated m.conditional m.opens name f a)
-opens_back op m (operands.Field name field) args rest f a = value_opens m.opens (operands.Field name field) rest
-opens_back op m (operands.Instance name) args rest f a = sym (instance_closed op m.negated m.conditional m.opens name f a)
+opens_back : (dialect : Dialect) (op : Op) (m : Modifier) (o : Operand) (args : List Argument) (rest : List ℕ) → formed_by (usage_of op) m o ≡ true → allowed_by (usage_of op) m ≡ true → opens (written_behind dialect m.opens o args rest) ≡ m.opens
+opens_back dialect op m operands.Absent args rest f a = absent_opens m.opens
+opens_back dialect op m (operands.Literal v) args rest f a = value_opens dialect m.opens (operands.Literal v) rest
+opens_back dialect op m (operands.Bare z) args rest f a = value_opens dialect m.opens (operands.Bare z) rest
+opens_back dialect op m (operands.Variable name) args rest f a = value_opens dialect m.opens (operands.Variable name) rest
+opens_back dialect op m (operands.Direct loc) args rest f a = value_opens dialect m.opens (operands.Direct loc) rest
+opens_back dialect op m (operands.Label name) args rest f a = sym (label_closed op m.negated m.conditional m.opens name f a)
+opens_back dialect op m (operands.Field name field) args rest f a = value_opens dialect m.opens (operands.Field name field) rest
+opens_back dialect op m (operands.Instance name) args rest f a = sym (instance_closed op m.negated m.conditional m.opens name f a)
 
 -- ---- lines
 
-instruction_back : (dialect : Dialect) (ds : Declarations) (label : Option (List ℕ)) (line : Instr) (rest : List ℕ) → IsListedLine dialect ds line → instruction_of dialect ds label (Some (written_operation line rest)) ≡ Ok (record line { label = label })
+instruction_back : (dialect : Dialect) (ds : Declarations) (label : Option (List ℕ)) (line : Instr) (rest : List ℕ) → IsListedLine dialect ds line → instruction_of dialect ds label (Some (written_operation dialect line rest)) ≡ Ok (record line { label = label })
 unfolding instruction_of
 instruction_back dialect ds label line rest is =
     rw (
       behind_back dialect ds line.modifier.opens line.operand line.arguments rest is.operand,
       given_args dialect ds line.modifier.opens line.operand line.arguments rest (lone_args dialect ds line is) is.arguments,
-      opens_back line.op line.modifier line.operand line.arguments rest is.form is.letters,
+      opens_back dialect line.op line.modifier line.operand line.arguments rest is.form is.letters,
     ) refl
 
 abbrev pub instr : Option (List ℕ) → Op → Modifier → Operand → List Argument → Instr
@@ -174,28 +189,28 @@ empty_line label op n c b o args w a f k = absurd cc
 room_back : (code : List Instr) (left : ℕ) → length code < 4096 → room code left ≡ Ok tt
 room_back code left lt = rw (lt-leb 4096 (length code) lt) refl
 
-label_back : (name rest : List ℕ) → IsFreeName name → label_of (token_at signs.Name name rest) ≡ Ok name
-label_back name rest is = rw (capital name is.name, is.free) refl
+label_back : (dialect : Dialect) (name rest : List ℕ) → IsFreeName dialect name → label_of (token_at signs.Name name rest) ≡ Ok name
+label_back dialect name rest is = rw (capital dialect name is.name, is.free) refl
 
 abbrev pushed : List Instr → Instr → Result (List Instr) FaultAt
 pushed code line = Ok (code ++ line ∷ [])
 
-optional_back : (dialect : Dialect) (ds : Declarations) (name : List ℕ) (line : Instr) (rest : List ℕ) (b : Bool) → is_empty line.op ≡ b → IsListedLine dialect ds line → instruction_of dialect ds (Some name) (unless_empty b (written_operation line rest)) ≡ Ok (record line { label = Some name })
+optional_back : (dialect : Dialect) (ds : Declarations) (name : List ℕ) (line : Instr) (rest : List ℕ) (b : Bool) → is_empty line.op ≡ b → IsListedLine dialect ds line → instruction_of dialect ds (Some name) (unless_empty b (written_operation dialect line rest)) ≡ Ok (record line { label = Some name })
 unfolding instruction_of
 optional_back dialect ds name line rest true e is =
     ap (λ (l : Instr). let r : Result Instr FaultAt = Ok l in r) (empty_line (Some name) line.op line.modifier.negated line.modifier.conditional line.modifier.opens line.operand line.arguments e is.letters is.form is.called)
 optional_back dialect ds name line rest false e is = instruction_back dialect ds (Some name) line rest is
 
-line_by : (dialect : Dialect) (ds : Declarations) (code : List Instr) (label : Option (List ℕ)) (line : Instr) (rest : List ℕ) → line.label ≡ label → IsListedLabel label → IsListedLine dialect ds line → length code < 4096
-    → instruct dialect ds code (labelled_line label line rest) ≡ pushed code line
+line_by : (dialect : Dialect) (ds : Declarations) (code : List Instr) (label : Option (List ℕ)) (line : Instr) (rest : List ℕ) → line.label ≡ label → IsListedLabel dialect label → IsListedLine dialect ds line → length code < 4096
+    → instruct dialect ds code (labelled_line dialect label line rest) ≡ pushed code line
 unfolding instruct_plain instruct_labelled
 line_by dialect ds code None line rest e free is lt =
-    rw (room_back code (written_operation line rest).operator.left lt, instruction_back dialect ds None line rest is) (ap (λ (l : Option (List ℕ)). pushed code (record line { label = l })) (sym e))
+    rw (room_back code (written_operation dialect line rest).operator.left lt, instruction_back dialect ds None line rest is) (ap (λ (l : Option (List ℕ)). pushed code (record line { label = l })) (sym e))
 line_by dialect ds code (Some name) line rest e free is lt =
     let behind = colon_text (is_empty line.op) ++ (operation_text line ++ rest) in
-    rw (label_back name behind free, room_back code (token_at signs.Name name behind).left lt, optional_back dialect ds name line rest (is_empty line.op) refl is) (ap (λ (l : Option (List ℕ)). pushed code (record line { label = l })) (sym e))
+    rw (label_back dialect name behind free, room_back code (token_at signs.Name name behind).left lt, optional_back dialect ds name line rest (is_empty line.op) refl is) (ap (λ (l : Option (List ℕ)). pushed code (record line { label = l })) (sym e))
 
-pub lines_back : (dialect : Dialect) (ds : Declarations) (seen code : List Instr) → AllByRecursion (IsListedLine dialect ds) code → length seen + length code ≤ 4096 → each (instruct dialect ds) seen (written_lines code) ≡ Ok (seen ++ code)
+pub lines_back : (dialect : Dialect) (ds : Declarations) (seen code : List Instr) → AllByRecursion (IsListedLine dialect ds) code → length seen + length code ≤ 4096 → each (instruct dialect ds) seen (written_lines dialect code) ≡ Ok (seen ++ code)
 unfolding each
 lines_back dialect ds seen [] all few = rw (append-nil seen) refl
 lines_back dialect ds seen (line ∷ code) all few =

@@ -1,5 +1,5 @@
 -- What a text of a dialect can say: values, types and operators of the versions whose listings are such texts.
-use Rattle.std.proofs.Common.{◌≡◌, Bool, true, List, [], ◌∷◌, refl, ◌&&◌}
+use Rattle.std.proofs.Common.{◌≡◌, ℕ, Bool, true, List, [], ◌∷◌, Option, Some, None, refl, ◌&&◌}
 use Rattle.std.specs.List.{list_all, AllByRecursion}
 use Rattle.il_model.specs.declared.dialect.Dialect.{Dialect}
 use Rattle.il_model.specs.declared.dialect.Dialect.TheVariants as dialects
@@ -12,7 +12,7 @@ use Rattle.il_model.specs.declared.program.Instr.{Instr}
 use Rattle.il_model.specs.Program.{Program}
 use Rattle.il_model.specs.declared.program.Operand.{Operand}
 use Rattle.il_model.specs.Constants.{constants_of, operands_in}
-use Rattle.il_model.specs.Image.{type_version, value_version, op_version, location_version, place_version, operand_version, retained_version, may_have, may_lie, may_retain, may_declare, may_instantiate, may_keep, may_name, may_write, version_of}
+use Rattle.il_model.specs.Image.{type_version, value_version, op_version, location_version, place_version, operand_version, retained_version, name_version, may_have, may_lie, may_retain, may_call, may_label, may_declare, may_instantiate, may_keep, may_name, may_write, version_of}
 use Rattle.il_model.specs.Fits.{IsImage}
 use Rattle.il_model.specs.declared.program.Loc.{Loc}
 use Rattle.il_model.specs.Locations.{is_nameable}
@@ -62,13 +62,16 @@ more_had versions.Three needed e = refl
 
 more_declared : (version : Version) (v : Variable) → may_declare version v ≡ true → may_declare (newest (dialect_for version)) v ≡ true
 more_declared version v e =
-    let h = both_true (may_have version (type_version v.ty)) (may_have version (value_version v.initial) && (may_lie version v.location && may_retain version v.retained)) e in
+    let n = both_true (may_call version v.name) (may_have version (type_version v.ty) && (may_have version (value_version v.initial) && (may_lie version v.location && may_retain version v.retained))) e in
+    let h = both_true (may_have version (type_version v.ty)) (may_have version (value_version v.initial) && (may_lie version v.location && may_retain version v.retained)) n.1 in
     let k = both_true (may_have version (value_version v.initial)) (may_lie version v.location && may_retain version v.retained) h.1 in
     let l = both_true (may_lie version v.location) (may_retain version v.retained) k.1 in
-    rw (more_had version (type_version v.ty) h.0, more_had version (value_version v.initial) k.0, more_had version (place_version v.location) l.0, more_had version (retained_version v.retained) l.1) refl
+    rw (more_had version (name_version v.name) n.0, more_had version (type_version v.ty) h.0, more_had version (value_version v.initial) k.0, more_had version (place_version v.location) l.0, more_had version (retained_version v.retained) l.1) refl
 
 more_instantiated : (version : Version) (x : Instance) → may_instantiate version x ≡ true → may_instantiate (newest (dialect_for version)) x ≡ true
-more_instantiated version x e = more_had version (retained_version x.retained) e
+more_instantiated version x e =
+    let h = both_true (may_call version x.name) (may_retain version x.retained) e in
+    rw (more_had version (name_version x.name) h.0, more_had version (retained_version x.retained) h.1) refl
 
 more_named : (version : Version) (os : List Operand) → list_all (may_name version) os ≡ true → list_all (may_name (newest (dialect_for version))) os ≡ true
 more_named version [] e = refl
@@ -76,10 +79,15 @@ more_named version (o ∷ os) e =
     let h = both_true (may_name version o) (list_all (may_name version) os) e in
     rw (more_had version (operand_version o) h.0) (more_named version os h.1)
 
+more_labelled : (version : Version) (label : Option (List ℕ)) → may_label version label ≡ true → may_label (newest (dialect_for version)) label ≡ true
+more_labelled version None e = refl
+more_labelled version (Some name) e = more_had version (name_version name) e
+
 more_written : (version : Version) (line : Instr) → may_write version line ≡ true → may_write (newest (dialect_for version)) line ≡ true
 more_written version line e =
-    let h = both_true (may_have version (op_version line.op)) (list_all (may_name version) (operands_in line)) e in
-    rw (more_had version (op_version line.op) h.0) (more_named version (operands_in line) h.1)
+    let l = both_true (may_label version line.label) (may_have version (op_version line.op) && list_all (may_name version) (operands_in line)) e in
+    let h = both_true (may_have version (op_version line.op)) (list_all (may_name version) (operands_in line)) l.1 in
+    rw (more_labelled version line.label l.0, more_had version (op_version line.op) h.0) (more_named version (operands_in line) h.1)
 
 all_more : {A : Type 0} (p q : A → Bool) → ((x : A) → p x ≡ true → q x ≡ true) → (xs : List A) → list_all p xs ≡ true → AllByRecursion (λ (x : A). q x ≡ true) xs
 all_more p q more [] all = tt

@@ -8,7 +8,7 @@ use Rattle.il_model.specs.declared.codes.Version.{Version}
 use Rattle.il_model.specs.declared.codes.Version.TheVariants as versions
 use Rattle.il_model.specs.declared.program.Variable.{Variable}
 use Rattle.il_model.specs.declared.program.Instance.{Instance}
-use Rattle.il_model.specs.Image.{version_of, may_retain}
+use Rattle.il_model.specs.Image.{version_of, may_call, may_retain, may_instantiate}
 use Rattle.il_model.specs.Program.{Program, declared_by}
 use Rattle.il_model.specs.Words.{spells}
 use Rattle.il_model.specs.Fits.{IsImage}
@@ -21,6 +21,7 @@ use Rattle.il_reader.specs.Spelling.{breaks, ahead, Spell, Says, is_bare, listed
 use Rattle.il_reader.proofs.Laws.{Spell-append}
 use Rattle.il_lister.specs.Listing.{variable_text, instance_text, line_text, turn_text, variables_text, instances_text, last_retained, first_retained, first_name, opening, listing}
 use Rattle.laws_listing.proofs.Sayable.{newest, dialect_for, IsSayableProgram, sayable}
+use Rattle.laws_listing.proofs.Fronts.{both_true}
 use Rattle.laws_listing.proofs.NameTexts.{IsFreeName}
 use Rattle.laws_listing.proofs.Listable.{listable}
 use Rattle.laws_listing.proofs.Written.{token_at, Declared, OfVariable, OfInstance, retained_of, name_of, text_of, of_instances, all_declared, declared_text, written_open, written_sections, written_lines, end_text, declared_of, begins_retained, first_qualifier, written_blocks, written}
@@ -64,9 +65,9 @@ lines_at Q = 10 ∷ flat_map line_text Q.code
 variable_said : (dialect : Dialect) (v : Variable) → IsListedVariable dialect v → IsSaid dialect (OfVariable v)
 variable_said dialect v is = record { name = is.name; first = is.value; retained = is.retained }
 
-instances_said : (dialect : Dialect) (xs : List Instance) → AllByRecursion (λ (x : Instance). IsFreeName x.name) xs → AllByRecursion (λ (x : Instance). may_retain (newest dialect) x.retained ≡ true) xs → AllByRecursion (IsSaid dialect) (of_instances xs)
+instances_said : (dialect : Dialect) (xs : List Instance) → AllByRecursion (λ (x : Instance). IsFreeName dialect x.name) xs → AllByRecursion (λ (x : Instance). may_instantiate (newest dialect) x ≡ true) xs → AllByRecursion (IsSaid dialect) (of_instances xs)
 instances_said dialect [] names may = tt
-instances_said dialect (x ∷ xs) names may = (record { name = names.0; first = tt; retained = may.0 }, instances_said dialect xs names.1 may.1)
+instances_said dialect (x ∷ xs) names may = (record { name = names.0; first = tt; retained = (both_true (may_call (newest dialect) x.name) (may_retain (newest dialect) x.retained) may.0).1 }, instances_said dialect xs names.1 may.1)
 
 declared_said : (dialect : Dialect) (vs : List Variable) (xs : List Instance) → AllByRecursion (IsListedVariable dialect) vs → AllByRecursion (IsSaid dialect) (of_instances xs) → AllByRecursion (IsSaid dialect) (all_declared vs xs)
 declared_said dialect [] xs listed said = said
@@ -134,7 +135,7 @@ bare dialect Q = rw (skip_none (tokens_of dialect (text_in dialect Q)) (var_toke
 
 bare_spelled : (dialect : Dialect) (Q : Program) → IsSayableProgram dialect Q → Spell (spelled_bare dialect (written dialect Q)) (tokens_of dialect (text_in dialect Q)) (tokens_of dialect [])
 bare_spelled dialect Q is =
-    let ls = listed ends_lines (spelled_line dialect) (written_lines Q.code) in
+    let ls = listed ends_lines (spelled_line dialect) (written_lines dialect Q.code) in
     let end = breaks ∷ ahead at_end ∷ [] in
     let mid = tokens_of dialect (10 ∷ []) in
     Spell-append (listed (ends_blocks dialect) (spelled_block dialect) (written_blocks dialect Q)) (ls ++ end) (tokens_of dialect (text_in dialect Q)) (tokens_of dialect (lines_at Q)) (tokens_of dialect []) (blocks_spelled dialect Q is)

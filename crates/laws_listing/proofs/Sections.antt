@@ -9,34 +9,34 @@ use Rattle.il_model.specs.Image.{may_retain}
 use Rattle.il_reader.specs.declared.contents.Qualifier.{Qualifier}
 use Rattle.il_reader.specs.declared.contents.Qualifier.TheVariants as qualifiers
 use Rattle.il_reader.specs.declared.lexeme.Sign.TheVariants as signs
-use Rattle.il_reader.specs.Tokens.{Token, is_word_end, tokens_of}
+use Rattle.il_reader.specs.Tokens.{Token, tokens_of}
 use Rattle.il_reader.specs.Front.{skip_breaks, is_word_token, next_is, next_is_word}
-use Rattle.il_reader.specs.Grammar.{DeclarationText, BlockText, ends_block, block_word, begins_block, ends_blocks, qualifier_word, is_no_qualifier, no_qualifier, is_qualifier}
+use Rattle.il_reader.specs.Grammar.{DeclarationText, BlockText, ends_block, block_word, begins_block, ends_blocks, qualifier_word, is_no_qualifier, no_qualifier, reads_as_qualifier}
 use Rattle.il_reader.specs.Spelling.{Part, breaks, ahead, sign, word, name, Spell, spelled_names, spelled_initial, spelled_declaration, spelled_qualifier, spelled_block, going, listed}
 use Rattle.il_reader.proofs.Laws.{Spell-append}
 use Rattle.il_lister.specs.Listing as listing
 use Rattle.laws_listing.proofs.Sayable.{newest}
-use Rattle.laws_listing.proofs.NameTexts.{IsName, name_by}
+use Rattle.laws_listing.proofs.NameTexts.{IsWord, word_by}
 use Rattle.laws_listing.proofs.Written.{token_at, Declared, retained_of, name_of, text_of, written_declared, both_alike, declared_text, written_qualifier, written_open, written_sections}
-use Rattle.laws_listing.proofs.Pieces.{name_token, blank_skips, break_token}
+use Rattle.laws_listing.proofs.Pieces.{is_name_end, word_token, blank_skips, break_token}
 use Rattle.laws_listing.proofs.Parts.{Begins, spell_one, spell_ahead, spell_solid, spell_break, skip_one, skip_none}
 use Rattle.laws_listing.proofs.Blocks.{IsSaid, declared_spelled, name_first}
 
 -- ---- keywords
 
-var_is : (dialect : Dialect) → IsName (block_word dialect)
+var_is : (dialect : Dialect) → IsWord (block_word dialect)
 unfolding is_well_spelled
-var_is dialects.Plain = name_by _ refl
-var_is dialects.Extended = name_by _ refl
+var_is dialects.Plain = word_by _ refl
+var_is dialects.Extended = word_by _ refl
 
-end_is : IsName (codes "END_VAR")
+end_is : IsWord (codes "END_VAR")
 unfolding is_well_spelled
-end_is = name_by _ refl
+end_is = word_by _ refl
 
-qualifier_is : (q : Qualifier) → IsName (qualifier_word q)
+qualifier_is : (q : Qualifier) → IsWord (qualifier_word q)
 unfolding is_well_spelled
-qualifier_is qualifiers.Retain = name_by _ refl
-qualifier_is qualifiers.NonRetain = name_by _ refl
+qualifier_is qualifiers.Retain = word_by _ refl
+qualifier_is qualifiers.NonRetain = word_by _ refl
 
 pub var_word : (dialect : Dialect) (rest : List ℕ) → is_word_token (block_word dialect) (token_at signs.Name (block_word dialect) rest) ≡ true
 unfolding spells
@@ -75,16 +75,16 @@ behind_word q rest = qualifier_bytes q ++ (10 ∷ rest)
 abbrev pub section_bytes : Dialect → Option Qualifier → List ℕ → List ℕ
 section_bytes dialect q rest = block_word dialect ++ behind_word q rest
 
-word_ends : (q : Option Qualifier) (rest : List ℕ) → is_word_end (behind_word q rest) ≡ true
+word_ends : (q : Option Qualifier) (rest : List ℕ) → is_name_end (behind_word q rest) ≡ true
 word_ends None rest = refl
 word_ends (Some q) rest = refl
 
 -- whatever dialect the text is taken for
 pub section_begins : (read dialect : Dialect) (q : Option Qualifier) (rest : List ℕ) → Begins (tokens_of read (section_bytes dialect q rest)) (token_at signs.Name (block_word dialect) (behind_word q rest)) (tokens_of read (behind_word q rest))
-section_begins read dialect q rest = record { is = name_token read (block_word dialect) (behind_word q rest) (var_is dialect) (word_ends q rest); solid = refl }
+section_begins read dialect q rest = record { is = word_token read (block_word dialect) (behind_word q rest) (var_is dialect) (word_ends q rest); solid = refl }
 
 qualifier_token : (read : Dialect) (q : Qualifier) (rest : List ℕ) → tokens_of read (behind_word (Some q) rest) ≡ token_at signs.Name (qualifier_word q) (10 ∷ rest) ∷ tokens_of read (10 ∷ rest)
-qualifier_token read q rest = blank_skips read (qualifier_word q ++ (10 ∷ rest)) ∙ name_token read (qualifier_word q) (10 ∷ rest) (qualifier_is q) refl
+qualifier_token read q rest = blank_skips read (qualifier_word q ++ (10 ∷ rest)) ∙ word_token read (qualifier_word q) (10 ∷ rest) (qualifier_is q) refl
 
 pub no_colon : (read : Dialect) (q : Option Qualifier) (rest : List ℕ) → next_is signs.Colon (tokens_of read (behind_word q rest)) ≡ false
 no_colon read None rest = ap (next_is signs.Colon) (break_token read rest)
@@ -140,8 +140,8 @@ qualified dialects.Extended (Some q) u ds qs rest o h =
     let ts = tokens_of dialects.Extended (behind_word (Some q) u) in
     let us = tokens_of dialects.Extended (10 ∷ u) in
     let e = qualifier_token dialects.Extended q u in
-    spell_solid (ahead (is_qualifier dialects.Extended) ∷ word (qualifier_word q) ∷ inside ds qs) ts t us rest (record { is = e; solid = refl })
-    (spell_ahead (is_qualifier dialects.Extended) (word (qualifier_word q) ∷ inside ds qs) ts rest (ap (is_qualifier dialects.Extended) e ∙ some_qualifier q (10 ∷ u))
+    spell_solid (ahead (reads_as_qualifier dialects.Extended) ∷ word (qualifier_word q) ∷ inside ds qs) ts t us rest (record { is = e; solid = refl })
+    (spell_ahead (reads_as_qualifier dialects.Extended) (word (qualifier_word q) ∷ inside ds qs) ts rest (ap (reads_as_qualifier dialects.Extended) e ∙ some_qualifier q (10 ∷ u))
     (spell_one (is_word_token (qualifier_word q)) t (inside ds qs) ts us rest e (own_word q (10 ∷ u)) h))
 
 abbrev pub section : Option Qualifier → List DeclarationText → BlockText
@@ -177,7 +177,7 @@ section_spelled dialect q u ds more ts rest o e h =
 -- ---- the end of a section
 
 end_begins : (dialect : Dialect) (v : List ℕ) → Begins (tokens_of dialect (codes "END_VAR" ++ (10 ∷ v))) (token_at signs.Name (codes "END_VAR") (10 ∷ v)) (tokens_of dialect (10 ∷ v))
-end_begins dialect v = record { is = name_token dialect (codes "END_VAR") (10 ∷ v) end_is refl; solid = refl }
+end_begins dialect v = record { is = word_token dialect (codes "END_VAR") (10 ∷ v) end_is refl; solid = refl }
 
 section_ends : (dialect : Dialect) (v : List ℕ) (ps : List Part) (rest : List Token) → Spell ps (tokens_of dialect (10 ∷ v)) rest → Spell (inside [] (word (codes "END_VAR") ∷ ps)) (tokens_of dialect (10 ∷ (codes "END_VAR" ++ (10 ∷ v)))) rest
 unfolding ends_block
@@ -198,14 +198,14 @@ abbrev pub qualifier_in : Dialect → Bool → List ℕ → Option Qualifier
 qualifier_in dialects.Plain retained name = None
 qualifier_in dialects.Extended retained name = written_qualifier retained name
 
-fits_by : (b : Bool) (w rest : List ℕ) → listing.is_qualifier w ≡ b → Fits dialects.Extended (cond b (Some qualifiers.NonRetain) None) (token_at signs.Name w rest)
+fits_by : (b : Bool) (w rest : List ℕ) → listing.reads_as_qualifier w ≡ b → Fits dialects.Extended (cond b (Some qualifiers.NonRetain) None) (token_at signs.Name w rest)
 fits_by true w rest e = refl
 fits_by false w rest e = rw e refl
 
 fits_so : (dialect : Dialect) (retained : Bool) (w rest : List ℕ) → Fits dialect (qualifier_in dialect retained w) (token_at signs.Name w rest)
 fits_so dialects.Plain retained w rest = refl
 fits_so dialects.Extended true w rest = refl
-fits_so dialects.Extended false w rest = fits_by (listing.is_qualifier w) w rest refl
+fits_so dialects.Extended false w rest = fits_by (listing.reads_as_qualifier w) w rest refl
 
 pub declared_opens : (dialect : Dialect) (retained : Bool) (d : Declared) (rest : List ℕ) → IsSaid dialect d → Opens dialect (qualifier_in dialect retained (name_of d)) (text_of d ++ rest)
 declared_opens dialect retained d rest is =
@@ -233,7 +233,7 @@ qualifier_by false = refl
 
 qualifier_said : (retained : Bool) (w : List ℕ) → listing.qualifier_text retained w ≡ qualifier_bytes (written_qualifier retained w)
 qualifier_said true w = refl
-qualifier_said false w = qualifier_by (listing.is_qualifier w)
+qualifier_said false w = qualifier_by (listing.reads_as_qualifier w)
 
 pub section_said : (retained : Bool) (w rest : List ℕ) → listing.section_text retained w ++ rest ≡ section_bytes dialects.Extended (written_qualifier retained w) rest
 section_said retained w rest =

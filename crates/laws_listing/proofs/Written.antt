@@ -1,7 +1,9 @@
 -- What the listing of a program says: its tokens with their kinds, their bytes and their places, in the order of the listing.
-use Rattle.std.proofs.Common.{ℕ, Bool, true, false, List, [], ◌∷◌, ◌++◌, length, Option, Some, None}
-use Rattle.std.specs.Prelude.{codes, if◌then◌else◌, not}
+use Rattle.std.proofs.Common.{◌≡◌, ℕ, ◌+◌, ◌≤◌, Bool, true, false, List, [], ◌∷◌, ◌++◌, length, Option, Some, None, arith}
+use Rattle.std.specs.Prelude.{codes, if◌then◌else◌, nat_lt, not}
 use Rattle.std.specs.List.{flat_map}
+use Rattle.std.proofs.lemmas.List.{length-append}
+use Rattle.std.proofs.lemmas.Bool.{ltb-false}
 use Rattle.il_model.specs.declared.dialect.Dialect.{Dialect}
 use Rattle.il_model.specs.declared.dialect.Dialect.TheVariants as dialects
 use Rattle.il_model.specs.declared.value.Value.{Value}
@@ -17,6 +19,8 @@ use Rattle.il_model.specs.Program.{Program}
 use Rattle.il_model.specs.Values.{number_of}
 use Rattle.il_model.specs.Operators.{is_zero}
 use Rattle.il_model.specs.Kinds.{kind_name}
+use Rattle.il_model.specs.declared.limits.TheConstants.{LONGEST_DOTTED_NAME}
+use Rattle.il_model.specs.Words.{under}
 use Rattle.il_model.specs.Codes.{is_empty}
 use Rattle.il_reader.specs.declared.lexeme.Sign.{Sign}
 use Rattle.il_reader.specs.declared.lexeme.Sign.TheVariants as signs
@@ -25,7 +29,7 @@ use Rattle.il_reader.specs.declared.contents.Qualifier.{Qualifier}
 use Rattle.il_reader.specs.declared.contents.Qualifier.TheVariants as qualifiers
 use Rattle.il_reader.specs.Tokens.{Token}
 use Rattle.il_reader.specs.Grammar.{OperandText, Constant, Direct, Named, Field, ArgumentText, CallText, BehindText, Nothing, Given, Target, Opened, Called, OperationText, LineText, Labelled, Plain, NamesText, Located, More, DeclarationText, BlockText, ProgramText}
-use Rattle.il_lister.specs.Listing.{literal_text, location_text, type_name, at_text, initial_text, variable_text, instance_text, operand_text, side_text, next_argument_text, arguments_text, operation_text, line_text, is_qualifier, turn_text, first_retained, first_name}
+use Rattle.il_lister.specs.Listing.{literal_text, location_text, type_name, at_text, initial_text, variable_text, instance_text, operand_text, side_text, next_argument_text, arguments_text, operation_text, line_text, reads_as_qualifier, turn_text, first_retained, first_name}
 use Rattle.laws_listing.proofs.OperatorTexts.{mnemonic}
 
 -- a token with the bytes behind it
@@ -42,30 +46,48 @@ literal_sign v = signs.Literal
 abbrev pub literal_at : Value → List ℕ → Token
 literal_at v rest = token_at (literal_sign v) (literal_text v) rest
 
-abbrev pub written_operand : Operand → List ℕ → OperandText
-written_operand (operands.Literal v) rest = Constant (literal_at v rest)
-written_operand (operands.Variable name) rest = Named (token_at signs.Name name rest)
-written_operand (operands.Direct loc) rest = Direct (token_at signs.Address (location_text loc) rest)
-written_operand (operands.Field name field) rest = Field (token_at signs.Name name (46 ∷ (field ++ rest))) (token_at signs.Name field rest)
-written_operand operand rest = Named (token_at signs.Name [] rest)
+-- whether an instance, a dot and a field have more bytes than a name may have
+abbrev pub is_long_field : List ℕ → List ℕ → Bool
+is_long_field name field = nat_lt LONGEST_DOTTED_NAME (length name + 1 + length field)
+
+pub under_short : (name field : List ℕ) → is_long_field name field ≡ false → length (under name field) ≤ 96
+under_short name field e =
+    let le = ltb-false 96 (length name + 1 + length field) e in
+    omega (arith, le, length-append name (46 ∷ field))
+
+abbrev pub dot_by : Bool → List ℕ
+dot_by long = if long then codes " ." else codes "."
+
+-- in an extended text a field is one name, if it isn't too long for that
+abbrev pub written_field : Dialect → Bool → List ℕ → List ℕ → List ℕ → OperandText
+written_field dialects.Extended false name field rest = Named (token_at signs.Name (under name field) rest)
+written_field dialects.Extended true name field rest = Field (token_at signs.Name name (dot_by true ++ (field ++ rest))) (token_at signs.Name field rest)
+written_field dialects.Plain long name field rest = Field (token_at signs.Name name (dot_by long ++ (field ++ rest))) (token_at signs.Name field rest)
+
+abbrev pub written_operand : Dialect → Operand → List ℕ → OperandText
+written_operand dialect (operands.Literal v) rest = Constant (literal_at v rest)
+written_operand dialect (operands.Variable name) rest = Named (token_at signs.Name name rest)
+written_operand dialect (operands.Direct loc) rest = Direct (token_at signs.Address (location_text loc) rest)
+written_operand dialect (operands.Field name field) rest = written_field dialect (is_long_field name field) name field rest
+written_operand dialect operand rest = Named (token_at signs.Name [] rest)
 
 -- ---- arguments
 
-abbrev pub written_argument : Argument → List ℕ → ArgumentText
-written_argument a rest = record { field = token_at signs.Name a.field (side_text a.side ++ (operand_text a.operand ++ rest)); side = a.side; operand = written_operand a.operand rest }
+abbrev pub written_argument : Dialect → Argument → List ℕ → ArgumentText
+written_argument dialect a rest = record { field = token_at signs.Name a.field (side_text a.side ++ (operand_text a.operand ++ rest)); side = a.side; operand = written_operand dialect a.operand rest }
 
 -- those and the ones behind them
-abbrev pub written_all : List Argument → List ℕ → List ArgumentText
-written_all [] rest = []
-written_all (a ∷ more) rest = written_argument a (flat_map next_argument_text more ++ rest) ∷ written_all more rest
+abbrev pub written_all : Dialect → List Argument → List ℕ → List ArgumentText
+written_all dialect [] rest = []
+written_all dialect (a ∷ more) rest = written_argument dialect a (flat_map next_argument_text more ++ rest) ∷ written_all dialect more rest
 
 -- between parentheses, where there are any
-abbrev pub written_arguments : List Argument → List ℕ → Option (List ArgumentText)
-written_arguments [] rest = None
-written_arguments (a ∷ more) rest = Some (written_all (a ∷ more) (41 ∷ rest))
+abbrev pub written_arguments : Dialect → List Argument → List ℕ → Option (List ArgumentText)
+written_arguments dialect [] rest = None
+written_arguments dialect (a ∷ more) rest = Some (written_all dialect (a ∷ more) (41 ∷ rest))
 
-abbrev pub written_call : List ℕ → List Argument → List ℕ → CallText
-written_call name arguments rest = record { instance = token_at signs.Name name (arguments_text arguments ++ rest); written = written_arguments arguments rest }
+abbrev pub written_call : Dialect → List ℕ → List Argument → List ℕ → CallText
+written_call dialect name arguments rest = record { instance = token_at signs.Name name (arguments_text arguments ++ rest); written = written_arguments dialect arguments rest }
 
 -- ---- operations
 
@@ -77,16 +99,16 @@ abbrev pub written_absent : Bool → BehindText
 written_absent true = Opened None
 written_absent false = Nothing
 
-abbrev pub written_behind : Bool → Operand → List Argument → List ℕ → BehindText
-written_behind opens operands.Absent arguments rest = written_absent opens
-written_behind opens (operands.Label name) arguments rest = Target (token_at signs.Name name rest)
-written_behind opens (operands.Instance name) arguments rest = Called (written_call name arguments rest)
-written_behind opens operand arguments rest = written_value opens (written_operand operand rest)
+abbrev pub written_behind : Dialect → Bool → Operand → List Argument → List ℕ → BehindText
+written_behind dialect opens operands.Absent arguments rest = written_absent opens
+written_behind dialect opens (operands.Label name) arguments rest = Target (token_at signs.Name name rest)
+written_behind dialect opens (operands.Instance name) arguments rest = Called (written_call dialect name arguments rest)
+written_behind dialect opens operand arguments rest = written_value opens (written_operand dialect operand rest)
 
-abbrev pub written_operation : Instr → List ℕ → OperationText
-written_operation line rest = record {
+abbrev pub written_operation : Dialect → Instr → List ℕ → OperationText
+written_operation dialect line rest = record {
   operator = record { mnemonic = mnemonic line.op line.modifier; left = length (operation_text line ++ rest) };
-  behind = written_behind line.modifier.opens line.operand line.arguments rest;
+  behind = written_behind dialect line.modifier.opens line.operand line.arguments rest;
 }
 
 abbrev pub unless_empty : Bool → OperationText → Option OperationText
@@ -98,16 +120,16 @@ unless_empty false x = Some x
 abbrev pub colon_text : Bool → List ℕ
 colon_text empty = if empty then codes ":" else codes ": "
 
-abbrev pub labelled_line : Option (List ℕ) → Instr → List ℕ → LineText
-labelled_line None line rest = Plain (written_operation line rest)
-labelled_line (Some name) line rest = Labelled (token_at signs.Name name (colon_text (is_empty line.op) ++ (operation_text line ++ rest))) (unless_empty (is_empty line.op) (written_operation line rest))
+abbrev pub labelled_line : Dialect → Option (List ℕ) → Instr → List ℕ → LineText
+labelled_line dialect None line rest = Plain (written_operation dialect line rest)
+labelled_line dialect (Some name) line rest = Labelled (token_at signs.Name name (colon_text (is_empty line.op) ++ (operation_text line ++ rest))) (unless_empty (is_empty line.op) (written_operation dialect line rest))
 
-abbrev pub written_line : Instr → List ℕ → LineText
-written_line line rest = labelled_line line.label line rest
+abbrev pub written_line : Dialect → Instr → List ℕ → LineText
+written_line dialect line rest = labelled_line dialect line.label line rest
 
-abbrev pub written_lines : List Instr → List LineText
-written_lines [] = []
-written_lines (line ∷ code) = written_line line (10 ∷ flat_map line_text code) ∷ written_lines code
+abbrev pub written_lines : Dialect → List Instr → List LineText
+written_lines dialect [] = []
+written_lines dialect (line ∷ code) = written_line dialect line (10 ∷ flat_map line_text code) ∷ written_lines dialect code
 
 -- ---- declarations
 
@@ -188,7 +210,7 @@ declared_text before (d ∷ ds) rest = turn_text before (retained_of d) (name_of
 
 abbrev pub written_qualifier : Bool → List ℕ → Option Qualifier
 written_qualifier true name = Some qualifiers.Retain
-written_qualifier false name = if is_qualifier name then Some qualifiers.NonRetain else None
+written_qualifier false name = if reads_as_qualifier name then Some qualifiers.NonRetain else None
 
 -- the declarations that still stand in the open section
 abbrev pub written_open : Bool → List Declared → List ℕ → List DeclarationText
@@ -234,4 +256,4 @@ abbrev pub written_blocks : Dialect → Program → List BlockText
 written_blocks dialect Q = first_block dialect Q ∷ written_sections (begins_retained Q) (declared_of Q) (end_text Q)
 
 abbrev pub written : Dialect → Program → ProgramText
-written dialect Q = record { name = None; blocks = written_blocks dialect Q; lines = written_lines Q.code }
+written dialect Q = record { name = None; blocks = written_blocks dialect Q; lines = written_lines dialect Q.code }

@@ -38,3 +38,15 @@ returns-in_err-write_text-in-Real g c = rw c.in-Real.is (stop _ c.from_residual-
 
 pub returns-in_ok-write_text-in-Real : goal.returns-in_ok-write_text-in-Real
 returns-in_ok-write_text-in-Real g c = rw c.in-Real.is (then c.in_ok-write_text-in-Real.ensures (equally (c.as_bytes.ensures.value ∙ c.as_str.ensures.value ∙ c.text-text.ensures) c.write_text-in-Real-2.ensures))
+
+pub returns-in_err-write_text-in-Word : goal.returns-in_err-write_text-in-Word
+returns-in_err-write_text-in-Word g c = rw c.in-Word.is (stop _ c.from_residual-in_err-write_text-in-Word.ensures.0 c.in_err-write_text-in-Word.ensures)
+
+pub returns-in_ok-write_text-in-Word : goal.returns-in_ok-write_text-in-Word
+returns-in_ok-write_text-in-Word g c = rw c.in-Word.is (then c.in_ok-write_text-in-Word.ensures (equally c.hex_word.ensures c.write_text-in-Word-2.ensures))
+
+pub returns-in_err-write_text-in-Dword : goal.returns-in_err-write_text-in-Dword
+returns-in_err-write_text-in-Dword g c = rw c.in-Dword.is (stop _ c.from_residual-in_err-write_text-in-Dword.ensures.0 c.in_err-write_text-in-Dword.ensures)
+
+pub returns-in_ok-write_text-in-Dword : goal.returns-in_ok-write_text-in-Dword
+returns-in_ok-write_text-in-Dword g c = rw c.in-Dword.is (then c.in_ok-write_text-in-Dword.ensures c.write_double_word.ensures)
