@@ -12,5 +12,5 @@ pub mod Readied
 pub mod Changed
 pub mod WorkedRows
 pub mod SameBytes
-pub mod ImageVersions
 pub mod ForcedOpens
+pub mod NextForces

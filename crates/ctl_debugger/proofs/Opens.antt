@@ -107,7 +107,7 @@ at_act Q now s ops.Ld m src args = at_value {X = Value} s (source_value s src) _
 at_act Q now s ops.St m src args = at_value {X = Value} s s.cr _ (λ v. at_value {X = Place} s (place_in src) _ (λ p. at_value {X = Value} s (negated_by m.negated v) _ (λ w. at_written Q s (with_value_at s p w))))
 at_act Q now s ops.S m src args = at_set Q s true src
 at_act Q now s ops.R m src args = at_set Q s false src
-at_act Q now s ops.Not m src args = at_value {X = Value} s s.cr _ (λ v. at_value {X = Bool} s (truth_in v) _ (λ t. at_next s _))
+at_act Q now s ops.Not m src args = at_value {X = Value} s s.cr _ (λ v. at_value {X = Value} s (negated_by true v) _ (λ w. at_next s _))
 at_act Q now s ops.Jmp m src args = at_value {X = ℕ} s (target_in src) _ (λ n. at_value {X = Bool} s (acts m s) _ (λ b. at_cond s b _ _ (at_next s _) (at_next s _)))
 at_act Q now s ops.Cal m src args = at_value {X = ℕ} s (instance_at src) _ (λ i. at_value {X = Bool} s (acts m s) _ (λ b. at_cond s b _ _ (at_written Q s (after_call now s i args)) (at_next s _)))
 at_act Q now s ops.Ret m src args = at_value {X = Bool} s (acts m s) _ (λ b. at_cond s b _ _ (at_end s s) (at_next s _))

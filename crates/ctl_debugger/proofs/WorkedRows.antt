@@ -220,7 +220,7 @@ no_image = ap (λ (r : Result Program LoadFault). outputs 1 false 1 ∷ outputs 
 
 n_named : IsName (codes "N")
 unfolding is_well_spelled spells look mnemonic_of
-n_named = record { lawful = refl; short = (let le : 1 ≤ 32 = omega arith in le) }
+n_named = record { lawful = refl; short = (let le : 1 ≤ 96 = omega arith in le) }
 
 does : (op : Op) (operand : Operand) → allows (usage_of op).letters plain ≡ true → has_form (usage_of op).form false operand ≡ true → IsOperand operand → (op ≡ ops.Empty → ⊥) → IsInstruction (line op operand)
 does op operand letters form is some = record { label = λ name e. absurd cc; letters = letters; form = form; operands = (is, tt); labelled = λ e. absurd (some e) }
@@ -231,6 +231,7 @@ counting_is = record {
   variables = (record { name = n_named; type = refl; range = refl; location = λ loc e. absurd cc }, tt);
   instances = tt;
   names = (tt, tt);
+  apart = tt;
   locations = tt;
   code = (
     does ops.Ld (operands.Variable (codes "N")) refl refl tt (λ e. cc),

@@ -27,7 +27,6 @@ use crate::breaks::{break_flags, break_positions};
 use crate::ready::{Fresh, Kind, Ready};
 use crate::shape::{can_restore, fits};
 use crate::snap_error::SnapError;
-use crate::versions::version;
 use ctl_model::{Phase, ScanOut};
 use ctl_scan::{Breakpoints, ScanCycle, have_states};
 use il_loader::Image;
@@ -372,7 +371,7 @@ impl Controller {
     fn peek(&self, slot: Slot) -> Option<Value>
         ensures { result ≡ value_read self.now.program self.now.control.cycle.state slot.0 }
     {
-        if version(&self.image).may_lie(Loc::of_code(slot.0)) {
+        if self.image.version().may_lie(Loc::of_code(slot.0)) {
             self.cycle.peek(slot)
         } else {
             None
@@ -438,11 +437,11 @@ impl Controller {
     /// `Force` and `Unforce` are `Done`, or refused as `BadSlot` where the slot is no bit and no word of `%I` or `%Q`
     /// (IEC 61131-3:2003, 2.4.1.1), also that of a variable that lies there, and then as `BadType` where a bit is given
     /// no BOOL or a word no INT; a force of an input counts from the next scan on, one of an output from the next end
-    /// of a scan on, and `%Q` itself keeps its value. `ReadVar` tells the value of any slot, of a double word's only in
-    /// a program of the third version, or is refused as `BadSlot`. `Reset` is `Done`: all variables at their first
-    /// values, the controller idle; forces, breakpoints, the moment and the count stay. `Warm` is `Done` too, and the
-    /// same but for retained variables, which keep their values, and retained instances, which keep their inputs and
-    /// their states (IEC 61131-3:2003, 2.4.2).
+    /// of a scan on, and `%Q` itself keeps its value. `ReadVar` tells the value of any slot, of a pattern's or a
+    /// double word's only in a program of the third version, or is refused as `BadSlot`. `Reset` is `Done`: all
+    /// variables at their first values, the controller idle; forces, breakpoints, the moment and the count stay. `Warm`
+    /// is `Done` too, and the same but for retained variables, which keep their values, and retained instances, which
+    /// keep their inputs and their states (IEC 61131-3:2003, 2.4.2).
     pub fn apply(&mut self, command: &Command) -> Answer
         requires { is_change command.now ≡ false }
         // By the table of commands.

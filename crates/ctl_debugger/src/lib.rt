@@ -44,7 +44,6 @@ mod names;
 mod ready;
 mod shape;
 mod snap_error;
-mod versions;
 
 pub use controller::Controller;
 pub use names::slot;

@@ -1,14 +1,27 @@
 //! The slots of names.
 
-ghost use Rattle.std.specs.Prelude.{◌≡◌, ◌<◌, ◌+◌, length, take, drop, position, IfSome};
+ghost use Rattle.std.specs.Prelude.{◌≡◌, ◌<◌, length, position, IfSome};
 ghost use Rattle.il_model.specs.Kinds.{field_name};
-ghost use Rattle.il_model.specs.Words.{spells};
+ghost use Rattle.il_model.specs.Words.{spells, split_last};
 ghost use Rattle.ctl_model.specs.Slots.{location_slot, variable_slot, instance_slot, field_slot, dotted_slot};
-ghost use Rattle.ctl_model.specs.Slots.{slot_number, slot_of};
+ghost use Rattle.ctl_model.specs.Slots.{slot_number, slot_of, dialect_by};
+ghost use Rattle.il_model.specs.Image.{version_of};
 
-use crate::versions::dialect;
 use il_loader::Image;
-use il_model::{CodedOperand, Field, Instance, MOST_INSTANCES, Slot, Variable, dot, is_spelled};
+use il_model::{
+    CodedOperand, Dialect, Field, Instance, MOST_INSTANCES, Slot, Variable, Version, is_spelled,
+    split_last,
+};
+
+/// The dialect that has the locations of an image: the extended one where the image is of the third version.
+fn dialect(image: &Image) -> Dialect
+    ensures { result ≡ dialect_by (version_of image.now) }
+{
+    match image.version() {
+        Version::One | Version::Two => Dialect::Plain,
+        Version::Three => Dialect::Extended,
+    }
+}
 
 fn location_slot(image: &Image, name: &[u8]) -> Option<u16>
     ensures { result ≡ location_slot image.now name.now }
@@ -73,11 +86,11 @@ fn field_slot(image: &Image, name: &[u8], field: &[u8]) -> Option<u16>
     instance_slot(i, &instances[i], field)
 }
 
-fn dotted_slot(image: &Image, name: &[u8], before: usize) -> Option<u16>
-    requires { before < length name.now }
-    ensures { result ≡ field_slot image.now (take before name.now) (drop (before + 1) name.now) }
+fn dotted_slot(image: &Image, name: &[u8]) -> Option<u16>
+    ensures { result ≡ dotted_slot image.now (split_last name.now) }
 {
-    field_slot(image, &name[..before], &name[before + 1..])
+    let (front, field) = split_last(name)?;
+    field_slot(image, front, field)
 }
 
 fn slot_number(image: &Image, name: &[u8]) -> Option<u16>
@@ -86,18 +99,16 @@ fn slot_number(image: &Image, name: &[u8]) -> Option<u16>
     if let [b'%', ..] = name {
         return location_slot(image, name);
     }
-    let before = dot(name);
-    if before < name.len() {
-        dotted_slot(image, name, before)
-    } else {
-        variable_slot(image, name)
+    match variable_slot(image, name) {
+        None => dotted_slot(image, name),
+        found => found,
     }
 }
 
 /// The slot of the location (`%IX0.3`; in a program of the third version also `%ID4`, which is read as DINT), of the
-/// instance's field (`T1.Q`) or of the variable that a name is, without regard to case (IEC 61131-3:2003, 2.4.1.1 and
-/// 2.5.2); None exactly where the name is none of these. The slot is the operand's code in the image; variables and
-/// instances are numbered from 0 as they are declared. It takes no memory.
+/// variable that a name is as a whole (`M7.STARTS`), else of the instance's field (`T1.Q`), without regard to case
+/// (IEC 61131-3:2003, 2.4.1.1 and 2.5.2); None exactly where the name is none of these. The slot is the operand's code
+/// in the image; variables and instances are numbered from 0 as they are declared. It takes no memory.
 pub fn slot(image: &Image, name: &[u8]) -> Option<Slot>
     ensures { result ≡ slot_of image.now name.now }
 {

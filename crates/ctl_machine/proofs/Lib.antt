@@ -12,3 +12,4 @@ pub mod Restoring
 pub mod Outputs
 pub mod Straight
 pub mod DoubleWords
+pub mod Peeked

@@ -1,6 +1,6 @@
 -- Names of variables, and of instances, stand once.
 use Rattle.std.proofs.Common.{◌≡◌, ℕ, zero, suc, Bool, true, false, List, [], ◌∷◌, ◌++◌, length, Option, Some, None, refl, sym, ap, subst, ◌∙◌}
-use Rattle.std.specs.Prelude.{slice_get, is_some, not}
+use Rattle.std.specs.Prelude.{slice_get, is_some, not, ◌&&◌}
 use Rattle.std.specs.List.{position}
 use Rattle.std.specs.Option.{option_map}
 use Rattle.std.proofs.lemmas.Slice.Eq.{bytes_eq-Decides}
@@ -8,6 +8,7 @@ use Rattle.il_model.specs.declared.program.Variable.{Variable}
 use Rattle.il_model.specs.declared.program.Instance.{Instance}
 use Rattle.il_model.specs.Words.{same_name, is_lawful_name}
 use Rattle.il_model.specs.Codes.{is_new_name}
+use Rattle.il_model.specs.Resolved.{instance_in}
 use Rattle.il_model.specs.Fits.{IsVariable, IsInstance, AreItems}
 use Rattle.il_model.proofs.RowTypes.{and_yes}
 use Rattle.il_model.proofs.Positions.{position_first, position_later}
@@ -73,7 +74,7 @@ variable_new : IsNew (λ (v : Variable). v.name) IsVariable
 variable_new seen v is k u here e = named_new (λ (w : Variable). w.name) seen v.name (not_is _ (and_yes (is_lawful_name v.name) _ is.name).1) k u here e
 
 instance_new : (vs : List Variable) → IsNew (λ (x : Instance). x.name) (IsInstance vs)
-instance_new vs seen x is k y here e = named_new (λ (z : Instance). z.name) seen x.name (not_is _ (and_yes (is_new_name vs x.name) _ is.name).1) k y here e
+instance_new vs seen x is k y here e = named_new (λ (z : Instance). z.name) seen x.name (not_is _ (and_yes (is_new_name vs x.name) _ (and_yes (is_new_name vs x.name && not (is_some (instance_in seen x.name))) _ is.name).0).1) k y here e
 
 pub variables_apart : (vs : List Variable) → AreItems IsVariable [] vs → (i k : ℕ) (u v : Variable) → slice_get vs i ≡ Some u → slice_get vs k ≡ Some v → u.name ≡ v.name → i ≡ k
 variables_apart vs are i k u v here there e = apart (λ (w : Variable). w.name) IsVariable variable_new [] vs are i k u v here there e

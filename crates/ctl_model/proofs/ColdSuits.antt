@@ -9,7 +9,7 @@ use Rattle.il_model.specs.declared.value.Value.{Value}
 use Rattle.il_model.specs.declared.value.Value.TheVariants as values
 use Rattle.il_model.specs.declared.program.Area.{Area}
 use Rattle.il_model.specs.declared.program.Loc.{Loc}
-use Rattle.il_model.specs.declared.program.Loc.TheVariants.{Bit, Word, Double}
+use Rattle.il_model.specs.declared.program.Loc.TheVariants.{Bit, Word, Pattern, Double}
 use Rattle.il_model.specs.declared.program.Variable.{Variable}
 use Rattle.il_model.specs.declared.cells.Cells.{Cells}
 use Rattle.il_model.specs.Program.{Program}
@@ -24,6 +24,8 @@ use Rattle.il_model.specs.Typing.{Shape, Arrives}
 use Rattle.ctl_model.specs.Suits.{AreCells, HasValues, Suits, held_of}
 use Rattle.ctl_model.proofs.Instances.{all_cold}
 use Rattle.il_model.proofs.RealValues.{real_is}
+use Rattle.il_model.proofs.BitValues.{bits_are}
+use Rattle.std.specs.Int.{w16, cast_signed}
 use Rattle.ctl_model.proofs.FirstValues.{firsts_first}
 
 pub some_of : (b : Bool) (x v : Value) → cond b (Some x) None ≡ Some v → x ≡ v
@@ -46,6 +48,8 @@ made_ty types.Dint z v e = ap ty_of (sym (some_of (is_within 2147483648 z) (valu
 made_ty types.Time z v e = ap ty_of (sym (some_of (is_within 2147483648 z) (values.Time z) v e))
 made_ty types.Lint z v e = ap ty_of (sym (some_of (is_within 9223372036854775808 z) (values.Lint z) v e))
 made_ty types.Real z v e = ap ty_of (sym (real_is z v e).1)
+made_ty types.Word z v e = ap ty_of (sym (bits_are 65536 values.Word z v e).is)
+made_ty types.Dword z v e = ap ty_of (sym (bits_are 4294967296 values.Dword z v e).is)
 
 first_ty : (loc : Option Loc) (t : Ty) (o : Option Value) (v : Value) → ((x : Value) → o ≡ Some x → ty_of x ≡ t) → option_and_then (if_passes (may_start_with loc)) o ≡ Some v → ty_of v ≡ t
 first_ty loc t None v typed e = absurd cc
@@ -78,12 +82,18 @@ written_are c (Bit a n) (values.Dint z) is = is
 written_are c (Bit a n) (values.Time z) is = is
 written_are c (Bit a n) (values.Lint z) is = is
 written_are c (Bit a n) (values.Real r) is = is
+written_are c (Bit a n) (values.Word p) is = is
+written_are c (Bit a n) (values.Dword p) is = is
 written_are c (Word a n) (values.Bool b) is = is
 written_are c (Word a n) (values.Int z) is = set_by (ltb n (length c.words)) c (record c { words = slice_set c.words n z }) is (record { bits = is.bits; words = length-set c.words n z ∙ is.words })
 written_are c (Word a n) (values.Dint z) is = is
 written_are c (Word a n) (values.Time z) is = is
 written_are c (Word a n) (values.Lint z) is = is
 written_are c (Word a n) (values.Real r) is = is
+written_are c (Word a n) (values.Word p) is = is
+written_are c (Word a n) (values.Dword p) is = is
+written_are c (Pattern a n) (values.Word p) is = set_by (ltb n (length c.words)) c (record c { words = slice_set c.words n (cast_signed w16 p) }) is (record { bits = is.bits; words = length-set c.words n (cast_signed w16 p) ∙ is.words })
+written_are c (Pattern a n) _ is = is
 written_are c (Double a n t) v is = pattern_are c n (double_pattern t v) is
 
 chosen_are : (b : Bool) (c d : Cells) → AreCells c → AreCells d → AreCells (cond b d c)

@@ -47,6 +47,8 @@ same_type_self types.Dint = refl
 same_type_self types.Time = refl
 same_type_self types.Lint = refl
 same_type_self types.Real = refl
+same_type_self types.Word = refl
+same_type_self types.Dword = refl
 
 -- ---- values
 

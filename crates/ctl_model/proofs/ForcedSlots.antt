@@ -10,14 +10,14 @@ use Rattle.il_model.specs.declared.value.Value.TheVariants as values
 use Rattle.il_model.specs.declared.program.Area.{Area}
 use Rattle.il_model.specs.declared.program.Area.TheVariants as areas
 use Rattle.il_model.specs.declared.program.Loc.{Loc}
-use Rattle.il_model.specs.declared.program.Loc.TheVariants.{Bit, Word, Double}
+use Rattle.il_model.specs.declared.program.Loc.TheVariants.{Bit, Word, Pattern, Double}
 use Rattle.il_model.specs.declared.program.DoubleType.{DoubleType}
 use Rattle.il_model.specs.declared.program.DoubleType.TheVariants as doubles
 use Rattle.il_model.specs.declared.snapshot.ForcedSlot.{ForcedSlot}
 use Rattle.il_model.specs.Values.{ty_of}
 use Rattle.il_model.specs.Row.{same_type}
 use Rattle.il_model.specs.Locations.{begins_double}
-use Rattle.il_model.specs.CodedOperands.{double_loc, double_there, area_loc, any_loc}
+use Rattle.il_model.specs.CodedOperands.{double_loc, pattern_loc, double_there, area_loc, any_loc}
 use Rattle.il_model.proofs.RowTypes.{same_type_is}
 use Rattle.ctl_model.specs.declared.forces.Mask.{Mask}
 use Rattle.ctl_model.specs.declared.forces.Forces.{Forces}
@@ -128,14 +128,24 @@ double_not area t n loc e = by_test (begins_double n) e
     by_test true f = let is : Double area n t ≡ loc = cc in ap forcible (sym is)
     by_test false f = absurd cc
 
-no_double : (area : Area) (n : ℕ) (loc : Loc) → double_there area n ≡ Some loc → forcible loc ≡ None
-no_double area n loc e = by_tests (nat_lt n 1280) (nat_lt n 1536) (nat_lt n 1792) e
+-- nor a pattern
+pattern_not : (area : Area) (n : ℕ) (loc : Loc) → pattern_loc area n ≡ Some loc → forcible loc ≡ None
+pattern_not area n loc e = by_test (nat_lt n 64) e
   where
-    by_tests : (p q r : Bool) → cond p None (cond q (double_loc area doubles.Dint (n - 1280)) (cond r (double_loc area doubles.Time (n - 1536)) (double_loc area doubles.Real (n - 1792)))) ≡ Some loc → forcible loc ≡ None
-    by_tests true q r f = absurd cc
-    by_tests false true r f = double_not area doubles.Dint (n - 1280) loc f
-    by_tests false false true f = double_not area doubles.Time (n - 1536) loc f
-    by_tests false false false f = double_not area doubles.Real (n - 1792) loc f
+    by_test : (p : Bool) → cond p (Some (Pattern area n)) None ≡ Some loc → forcible loc ≡ None
+    by_test true f = let is : Pattern area n ≡ loc = cc in ap forcible (sym is)
+    by_test false f = absurd cc
+
+no_double : (area : Area) (n : ℕ) (loc : Loc) → double_there area n ≡ Some loc → forcible loc ≡ None
+no_double area n loc e = by_tests (nat_lt n 1280) (nat_lt n 1536) (nat_lt n 1792) (nat_lt n 2048) (nat_lt n 2304) e
+  where
+    by_tests : (p q r s t : Bool) → cond p None (cond q (double_loc area doubles.Dint (n - 1280)) (cond r (double_loc area doubles.Time (n - 1536)) (cond s (double_loc area doubles.Real (n - 1792)) (cond t (double_loc area doubles.Dword (n - 2048)) (pattern_loc area (n - 2304)))))) ≡ Some loc → forcible loc ≡ None
+    by_tests true q r s t f = absurd cc
+    by_tests false true r s t f = double_not area doubles.Dint (n - 1280) loc f
+    by_tests false false true s t f = double_not area doubles.Time (n - 1536) loc f
+    by_tests false false false true t f = double_not area doubles.Real (n - 1792) loc f
+    by_tests false false false false true f = double_not area doubles.Dword (n - 2048) loc f
+    by_tests false false false false false f = pattern_not area (n - 2304) loc f
 
 pub input_there : (n : ℕ) → n < 4096 → any_loc n ≡ area_loc areas.Input n
 input_there n lt = ap (λ b. cond b (area_loc areas.Input n) (cond (nat_lt n 8192) (area_loc areas.Output (n - 4096)) (area_loc areas.Memory (n - 8192)))) (lt-ltb n 4096 lt)
@@ -164,6 +174,8 @@ int_value (values.Dint z) e = absurd cc
 int_value (values.Time z) e = absurd cc
 int_value (values.Lint z) e = absurd cc
 int_value (values.Real r) e = absurd cc
+int_value (values.Word n) e = absurd cc
+int_value (values.Dword n) e = absurd cc
 
 at_none : (n : ℕ) (v : Value) → any_loc n ≡ None → fits_location v (forcible_at n) ≡ true → ⊥
 at_none n v e h = let f = ap (λ o. fits_location v (option_and_then forcible o)) e in absurd cc

@@ -16,7 +16,7 @@ use Rattle.il_model.specs.declared.value.Value.TheVariants as values
 use Rattle.il_model.specs.declared.program.Area.{Area}
 use Rattle.il_model.specs.declared.program.Area.TheVariants as areas
 use Rattle.il_model.specs.declared.program.Loc.{Loc}
-use Rattle.il_model.specs.declared.program.Loc.TheVariants.{Bit, Word, Double}
+use Rattle.il_model.specs.declared.program.Loc.TheVariants.{Bit, Word, Pattern, Double}
 use Rattle.il_model.specs.declared.program.DoubleType.{DoubleType}
 use Rattle.il_model.specs.declared.program.DoubleType.TheVariants as doubles
 use Rattle.il_model.specs.declared.program.Variable.{Variable}
@@ -32,7 +32,7 @@ use Rattle.il_model.specs.Codes.{has_code, is_taken, is_overlapped, is_type, is_
 use Rattle.il_model.specs.Image.{location_code}
 use Rattle.il_model.specs.Typing.{loc_type}
 use Rattle.il_model.specs.Fits.{IsVariable, AreItems, IsProgram}
-use Rattle.il_model.specs.Doubles.{double_value, double_pattern, high_word, low_word, pattern_of_words}
+use Rattle.il_model.specs.Doubles.{word_value, double_value, double_pattern, high_word, low_word, pattern_of_words}
 use Rattle.il_model.proofs.RowTypes.{and_yes}
 use Rattle.il_model.proofs.CodedOperands.{coded_back}
 use Rattle.il_model.proofs.LocationLaws.{double_fits}
@@ -53,6 +53,7 @@ HasBit loc k = ⊥
 abbrev HasWord : Loc → ℕ → Type 0
 HasWord (Bit a n) k = ⊥
 HasWord (Word a n) k = k ≡ n
+HasWord (Pattern a n) k = k ≡ n
 HasWord (Double a n t) k = (k ≡ n) ⊎ (k ≡ suc n)
 
 record AreApart (l loc : Loc) : Type 0 where
@@ -76,6 +77,7 @@ same_on c d e loc first more = record { bits = λ k at. first.bits k at ∙ more
 value_same : (c d : Cells) (loc : Loc) → SameAt c d loc → value_in c loc ≡ value_in d loc
 value_same c d (Bit a n) same = ap (option_map values.Bool) (same.bits n refl)
 value_same c d (Word a n) same = ap (option_map values.Int) (same.words n refl)
+value_same c d (Pattern a n) same = ap (option_map word_value) (same.words n refl)
 value_same c d (Double a n t) same =
     ap (λ (o : Option ℤ). double_in t o (slice_get c.words (suc n))) (same.words n (inl refl)) ∙ ap (double_in t (slice_get d.words n)) (same.words (suc n) (inr refl))
 
@@ -121,9 +123,11 @@ pattern_only c a n t (Some p) = only_by (nat_lt (suc n) (length c.words)) c (rec
 written_only : (c : Cells) (loc : Loc) (v : Value) → OnlyAt c (written c loc v) loc
 written_only c (Bit a n) (values.Bool b) = only_by (nat_lt n (length c.bits)) c (record c { bits = slice_set c.bits n b }) (Bit a n) (record { bits = λ k no. get_other c.bits n k b no; words = λ k no. refl })
 written_only c (Word a n) (values.Int z) = only_by (nat_lt n (length c.words)) c (record c { words = slice_set c.words n z }) (Word a n) (record { bits = λ k no. refl; words = λ k no. get_other c.words n k z no })
+written_only c (Pattern a n) (values.Word p) = only_by (nat_lt n (length c.words)) c (record c { words = slice_set c.words n (cast_signed w16 p) }) (Pattern a n) (record { bits = λ k no. refl; words = λ k no. get_other c.words n k (cast_signed w16 p) no })
 written_only c (Double a n t) v = pattern_only c a n t (double_pattern t v)
 written_only c (Bit a n) _ = unchanged c (Bit a n)
 written_only c (Word a n) _ = unchanged c (Word a n)
+written_only c (Pattern a n) _ = unchanged c (Pattern a n)
 
 -- what is written elsewhere leaves the cells of a location
 apart_stays : (c : Cells) (l loc : Loc) (v : Value) → AreApart l loc → SameAt (written c l v) c loc
@@ -153,9 +157,14 @@ written_same c d (Bit a n) loc (values.Bool b) is at same =
 written_same c d (Word a n) loc (values.Int z) is at same =
     let long : length c.words ≡ length d.words = is.words ∙ sym at.words in
     rw long (same_by (nat_lt n (length d.words)) c d (record c { words = slice_set c.words n z }) (record d { words = slice_set d.words n z }) loc same (record { bits = same.bits; words = λ k on. set_same c.words d.words n k z long (same.words k on) }))
+written_same c d (Pattern a n) loc (values.Word p) is at same =
+    let long : length c.words ≡ length d.words = is.words ∙ sym at.words in
+    let z = cast_signed w16 p in
+    rw long (same_by (nat_lt n (length d.words)) c d (record c { words = slice_set c.words n z }) (record d { words = slice_set d.words n z }) loc same (record { bits = same.bits; words = λ k on. set_same c.words d.words n k z long (same.words k on) }))
 written_same c d (Double a n t) loc v is at same = pattern_same c d n loc (double_pattern t v) is at same
 written_same c d (Bit a n) loc _ is at same = same
 written_same c d (Word a n) loc _ is at same = same
+written_same c d (Pattern a n) loc _ is at same = same
 
 -- ---- what is read at a location reads back when it's written there
 
@@ -170,6 +179,18 @@ word_back c a n None v is lt e = absurd cc
 word_back c a n (Some z) v is lt e =
     subst (λ (v : Value). value_in (written c (Word a n) v) (Word a n) ≡ Some v) (some_same (values.Int z) v e)
     (let lt : n < length c.words = omega (arith, is.words) in rw (lt-ltb n (length c.words) lt, get_same c.words n z lt) refl)
+
+-- a WORD that was read, written as a word, is that WORD
+word_pattern_back : (c : Cells) (a : Area) (n : ℕ) (o : Option ℤ) (v : Value) → AreCells c → n < 64 → option_map word_value o ≡ Some v → value_in (written c (Pattern a n) v) (Pattern a n) ≡ Some v
+word_pattern_back c a n None v is lt e = absurd cc
+word_pattern_back c a n (Some z) v is lt e =
+    subst (λ (v : Value). value_in (written c (Pattern a n) v) (Pattern a n) ≡ Some v) (some_same (word_value z) v e)
+    (let fits : n < length c.words = omega (arith, is.words) in
+    let p = cast_unsigned w16 z % 2 ^ 16 in
+    let small : p < 2 ^ 16 = omega arith in
+    let again : cast_unsigned w16 (cast_signed w16 p) ≡ p = of_z-to_z w16 p small in
+    let whole : p % 2 ^ 16 ≡ p = omega (arith, small) in
+    rw (lt-ltb n (length c.words) fits, get_same c.words n (cast_signed w16 p) fits) (ap (λ (k : ℕ). Some (values.Word (k % 2 ^ 16))) again ∙ ap (λ (k : ℕ). Some (values.Word k)) whole))
 
 -- two words of a pattern are that pattern
 words_join : (p : ℕ) → p < 2 ^ 32 → pattern_of_words (high_word p) (low_word p) ≡ p
@@ -211,6 +232,11 @@ read_again doubles.Time high low =
 read_again doubles.Real high low =
     let number = unwrap_or (with_pattern (pattern_of_words high low)) zero_real in
     record { pattern = number.pattern; is = refl; again = rw (words_join number.pattern (real_small number), with_own_pattern number) refl }
+read_again doubles.Dword high low =
+    let p = pattern_of_words high low % 2 ^ 32 in
+    let small : p < 2 ^ 32 = omega arith in
+    let whole : p % 2 ^ 32 ≡ p = omega (arith, small) in
+    record { pattern = p; is = refl; again = ap (λ (k : ℕ). values.Dword (k % 2 ^ 32)) (words_join p small) ∙ ap values.Dword whole }
 
 pattern_back : (c : Cells) (a : Area) (n : ℕ) (t : DoubleType) (v : Value) → AreCells c → suc n < 64 → IsReadAgain t v → value_in (written c (Double a n t) v) (Double a n t) ≡ Some v
 pattern_back c a n t v is lt read =
@@ -234,12 +260,14 @@ double_back c a n t (Some h) (Some l) v is lt e =
 reads_back : (c old : Cells) (loc : Loc) (v : Value) → AreCells c → IsCell loc → value_in old loc ≡ Some v → value_in (written c loc v) loc ≡ Some v
 reads_back c old (Bit a n) v is cell e = bit_back c a n (slice_get old.bits n) v is cell e
 reads_back c old (Word a n) v is cell e = word_back c a n (slice_get old.words n) v is cell e
+reads_back c old (Pattern a n) v is cell e = word_pattern_back c a n (slice_get old.words n) v is cell e
 reads_back c old (Double a n t) v is cell e = double_back c a n t (slice_get old.words n) (slice_get old.words (suc n)) v is (double_fits n cell) e
 
 -- a cell has a value
 value_there : (c : Cells) (loc : Loc) → AreCells c → IsCell loc → (v : Value) × (value_in c loc ≡ Some v)
 value_there c (Bit a n) is cell = (values.Bool (get_or c.bits n false), ap (option_map values.Bool) (slice_get-get_or c.bits n false (omega (arith, is.bits, cell))))
 value_there c (Word a n) is cell = (values.Int (get_or c.words n (pos 0)), ap (option_map values.Int) (slice_get-get_or c.words n (pos 0) (omega (arith, is.words, cell))))
+value_there c (Pattern a n) is cell = (word_value (get_or c.words n (pos 0)), ap (option_map word_value) (slice_get-get_or c.words n (pos 0) (omega (arith, is.words, cell))))
 value_there c (Double a n t) is cell =
     let lt = double_fits n cell in
     (double_value t (get_or c.words n (pos 0)) (get_or c.words (suc n) (pos 0)), rw (slice_get-get_or c.words n (pos 0) (omega (arith, is.words, lt)), slice_get-get_or c.words (suc n) (pos 0) (omega (arith, is.words, lt))) refl)
@@ -273,11 +301,13 @@ false_any p (x ∷ xs) e = let m = or_parts (p x) (list_any p xs) e in (m.0, fal
 bit_coded : (l : Loc) (k : ℕ) → HasBit l k → has_code (loc_code (Bit (area_of l) k)) (Some l) ≡ true
 bit_coded (Bit a n) k e = rw (eq-eqb (loc_code (Bit a n)) (loc_code (Bit a k)) (ap (λ (m : ℕ). loc_code (Bit a m)) (sym e))) refl
 bit_coded (Word a n) k e = absurd e
+bit_coded (Pattern a n) k e = absurd e
 bit_coded (Double a n t) k e = absurd e
 
 word_coded : (l : Loc) (k : ℕ) → HasWord l k → has_code (loc_code (Word (area_of l) k)) (Some l) ≡ true
 word_coded (Bit a n) k e = absurd e
 word_coded (Word a n) k e = rw (eq-eqb (loc_code (Word a n)) (loc_code (Word a k)) (ap (λ (m : ℕ). loc_code (Word a m)) (sym e))) refl
+word_coded (Pattern a n) k e = rw (eq-eqb (loc_code (Word a n)) (loc_code (Word a k)) (ap (λ (m : ℕ). loc_code (Word a m)) (sym e))) refl
 word_coded (Double a n t) k (inl e) = rw (eq-eqb (loc_code (Word a n)) (loc_code (Word a k)) (ap (λ (m : ℕ). loc_code (Word a m)) (sym e))) refl
 word_coded (Double a n t) k (inr e) =
     rw (eq-eqb (loc_code (Word a (suc n))) (loc_code (Word a k)) (ap (λ (m : ℕ). loc_code (Word a m)) (sym e))) (or_right (nat_eq (loc_code (Word a n)) (loc_code (Word a k))) true refl)
@@ -285,11 +315,13 @@ word_coded (Double a n t) k (inr e) =
 of_bit : (P : Loc → Type 0) (loc : Loc) (k : ℕ) → AllByRecursion P (parts_of loc) → HasBit loc k → P (Bit (area_of loc) k)
 of_bit P (Bit a n) k all e = subst (λ (m : ℕ). P (Bit a m)) (sym e) all.0
 of_bit P (Word a n) k all e = absurd e
+of_bit P (Pattern a n) k all e = absurd e
 of_bit P (Double a n t) k all e = absurd e
 
 of_word : (P : Loc → Type 0) (loc : Loc) (k : ℕ) → AllByRecursion P (parts_of loc) → HasWord loc k → P (Word (area_of loc) k)
 of_word P (Bit a n) k all e = absurd e
 of_word P (Word a n) k all e = subst (λ (m : ℕ). P (Word a m)) (sym e) all.0
+of_word P (Pattern a n) k all e = subst (λ (m : ℕ). P (Word a m)) (sym e) all.0
 of_word P (Double a n t) k all (inl e) = subst (λ (m : ℕ). P (Word a m)) (sym e) all.0
 of_word P (Double a n t) k all (inr e) = subst (λ (m : ℕ). P (Word a m)) (sym e) all.1.0
 

@@ -6,7 +6,7 @@ use Rattle.std.specs.Option.{option_and_then}
 use Rattle.il_model.specs.declared.value.Value.{Value}
 use Rattle.il_model.specs.declared.program.Area.TheVariants as areas
 use Rattle.il_model.specs.declared.program.Loc.{Loc}
-use Rattle.il_model.specs.declared.program.Loc.TheVariants.{Bit, Word, Double}
+use Rattle.il_model.specs.declared.program.Loc.TheVariants.{Bit, Word, Pattern, Double}
 use Rattle.il_model.specs.declared.cells.InImage.{InImage}
 use Rattle.il_model.specs.declared.command.Command.{Command}
 use Rattle.il_model.specs.declared.command.Command.TheVariants as commands
@@ -80,6 +80,7 @@ on_break Q s p b = if nat_lt p (length Q.code) then (answers.Done, record s { br
 abbrev pub is_forcible : Loc → Bool
 is_forcible (Bit areas.Memory n) = false
 is_forcible (Word areas.Memory n) = false
+is_forcible (Pattern area n) = false
 is_forcible (Double area n t) = false
 is_forcible loc = true
 

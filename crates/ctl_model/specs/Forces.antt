@@ -9,7 +9,7 @@ use Rattle.il_model.specs.declared.value.Value.TheVariants as values
 use Rattle.il_model.specs.declared.program.Area.{Area}
 use Rattle.il_model.specs.declared.program.Area.TheVariants as areas
 use Rattle.il_model.specs.declared.program.Loc.{Loc}
-use Rattle.il_model.specs.declared.program.Loc.TheVariants.{Bit, Word, Double}
+use Rattle.il_model.specs.declared.program.Loc.TheVariants.{Bit, Word}
 use Rattle.il_model.specs.Locations.{area_of}
 use Rattle.ctl_model.specs.declared.forces.Mask.{Mask}
 use Rattle.ctl_model.specs.declared.forces.Forces.{Forces}
@@ -36,7 +36,7 @@ with_bit m n b = if nat_lt n (length m.bits) then Some (record m { bits = slice_
 abbrev pub with_word : Mask → ℕ → Option ℤ → Option Mask
 with_word m n z = if nat_lt n (length m.words) then Some (record m { words = slice_set m.words n z }) else None
 
--- a bit is forced to a BOOL, a word to an INT; a double word is no cell of its own: its words are forced
+-- a bit is forced to a BOOL, a word to an INT; a pattern or a double word is no cell of its own: its words are forced
 abbrev pub with_forced : Mask → Loc → Value → Option Mask
 with_forced m (Bit a n) (values.Bool b) = with_bit m n (Some b)
 with_forced m (Word a n) (values.Int z) = with_word m n (Some z)
@@ -45,7 +45,7 @@ with_forced m loc v = None
 abbrev pub with_freed : Mask → Loc → Option Mask
 with_freed m (Bit a n) = with_bit m n None
 with_freed m (Word a n) = with_word m n None
-with_freed m (Double a n t) = None
+with_freed m loc = None
 
 -- inputs and outputs can be forced, memory can't
 abbrev pub in_area : Forces → Area → (Mask → Option Mask) → Option Forces

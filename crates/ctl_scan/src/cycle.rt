@@ -242,8 +242,8 @@ impl ScanCycle {
     }
 
     /// Forces a bit of `%I` or `%Q` (IEC 61131-3:2003 2.4.1.1) to a BOOL, or a word to an INT, from the next latch or
-    /// release on. False, and nothing changed, where the location is of another area or a double word, or the value of
-    /// another type.
+    /// release on. False, and nothing changed, where the location is of another area, a pattern or a double word, or the
+    /// value of another type.
     pub fn force(&mut self, loc: Loc, v: Value) -> bool
         ensures told { result ≡ is_some (with_force self.old.cycle loc v) }
         ensures forced { self.new
@@ -254,8 +254,8 @@ impl ScanCycle {
         self.forces.force(loc, v)
     }
 
-    /// Frees a bit or a word of `%I` or `%Q`, forced or not. False, and nothing changed, where it is of another area or
-    /// a double word.
+    /// Frees a bit or a word of `%I` or `%Q`, forced or not. False, and nothing changed, where it is of another area, a
+    /// pattern or a double word.
     pub fn unforce(&mut self, loc: Loc) -> bool
         ensures told { result ≡ is_some (without_force self.old.cycle loc) }
         ensures unforced { self.new

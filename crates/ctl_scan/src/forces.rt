@@ -51,8 +51,8 @@ fn lay<T: Copy>(mask: &[Option<T>], cells: &mut [T])
     }
 }
 
-/// Forces a bit or a word of the inputs or outputs; false, and nothing changed, where it is of another area or a double
-/// word, or the value isn't of its type.
+/// Forces a bit or a word of the inputs or outputs; false, and nothing changed, where it is of another area, a pattern
+/// or a double word, or the value isn't of its type.
 pub fn force(forces: &mut Forces, loc: Loc, v: Value) -> bool
     ensures told { result ≡ is_some (put_force forces.old loc v) }
     ensures forced { forces.new ≡ unwrap_or (put_force forces.old loc v) forces.old }
@@ -64,8 +64,8 @@ pub fn force(forces: &mut Forces, loc: Loc, v: Value) -> bool
     }
 }
 
-/// Frees a bit or a word of the inputs or outputs; false, and nothing changed, where it is of another area or a double
-/// word.
+/// Frees a bit or a word of the inputs or outputs; false, and nothing changed, where it is of another area, a pattern
+/// or a double word.
 pub fn unforce(forces: &mut Forces, loc: Loc) -> bool
     ensures told { result ≡ is_some (lift_force forces.old loc) }
     ensures unforced { forces.new ≡ unwrap_or (lift_force forces.old loc) forces.old }
@@ -95,7 +95,7 @@ fn unforce_in(mask: &mut Mask, loc: Loc) -> bool
     match loc {
         Loc::Bit(_, n) => set(&mut mask.bits, n, None),
         Loc::Word(_, n) => set(&mut mask.words, n, None),
-        Loc::Double(_, _, _) => false,
+        Loc::Pattern(_, _) | Loc::Double(_, _, _) => false,
     }
 }
 

@@ -17,7 +17,8 @@
 //! the breakpoint. `carry_over` goes on from the scan cycle of another image with what a change of the program carries
 //! over (`ctl_model/specs/Changes`). No call but `new`, `parts`, `from_parts` and `none` takes memory.
 //!
-//! Tests (nothing rests on them alone): `cycle_rows` of `tests_parts` holds a scan, carries it on, and forces.
+//! Tests (nothing rests on them alone): `debugger.rows` and `scans.rows` of `tests_rows` hold scans, carry them on, and
+//! force.
 #![tactic(auto)]
 
 mod breakpoints;

@@ -22,7 +22,7 @@ fn location_text(alloc: Global, location: Loc) -> Result<String, AllocError> {
             let (letter, byte, bit) = (letter(area), number / 8, number % 8);
             format!(in alloc; "%{letter}X{byte}.{bit}")
         }
-        Loc::Word(area, number) => {
+        Loc::Word(area, number) | Loc::Pattern(area, number) => {
             let letter = letter(area);
             format!(in alloc; "%{letter}W{number}")
         }
@@ -46,6 +46,8 @@ fn value_text(alloc: Global, value: Value) -> Result<String, AllocError> {
             let text = number.text();
             String::from_str(alloc, text.as_str())
         }
+        Value::Word(bits) => format!(in alloc; "16#{bits:04X}"),
+        Value::Dword(bits) => format!(in alloc; "16#{bits:08X}"),
     }
 }
 

@@ -125,9 +125,14 @@ abbrev pub process_json : Option Process → List ℕ
 process_json None = codes "null"
 process_json (Some process) = known_process process
 
--- the text of a REAL is no number of JSON in each case
+abbrev pub quoted : Value → List ℕ
+quoted v = codes "\"" ++ (value_text v ++ codes "\"")
+
+-- the text of a REAL is no number of JSON in each case, and that of a bit string never is
 abbrev pub value_json : Value → List ℕ
-value_json (values.Real r) = codes "\"" ++ (value_text (values.Real r) ++ codes "\"")
+value_json (values.Real r) = quoted (values.Real r)
+value_json (values.Word n) = quoted (values.Word n)
+value_json (values.Dword n) = quoted (values.Dword n)
 value_json v = value_text v
 
 -- an input or an output, with its name, its place and its value

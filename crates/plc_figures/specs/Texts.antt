@@ -4,6 +4,7 @@ use Rattle.std.specs.Prelude.{false, ◌&&◌, if◌then◌else◌, nat_le, nat_
 use Rattle.std.specs.List.{flat_map}
 use Rattle.std.specs.Fmt.{signed_decimal}
 use Rattle.il_real.specs.Texts.{real_text}
+use Rattle.il_model.specs.BitStrings.{hex_word, hex_double}
 use Rattle.il_model.specs.declared.value.Value.{Value}
 use Rattle.il_model.specs.declared.value.Value.TheVariants as values
 
@@ -26,7 +27,7 @@ abbrev pub seconds_text : ℕ → List ℕ
 seconds_text microseconds =
     decimal (microseconds / 1_000_000) ++ (codes "." ++ digits_six (microseconds % 1_000_000))
 
--- a value: 0 and 1 for a bit, a whole number, or a REAL
+-- a value: 0 and 1 for a bit, a whole number, a REAL, or a bit string in hexadecimal digits
 abbrev pub value_text : Value → List ℕ
 value_text (values.Bool b) = if b then codes "1" else codes "0"
 value_text (values.Int z) = signed_decimal z
@@ -34,6 +35,8 @@ value_text (values.Dint z) = signed_decimal z
 value_text (values.Time z) = signed_decimal z
 value_text (values.Lint z) = signed_decimal z
 value_text (values.Real r) = real_text r
+value_text (values.Word n) = codes "16#" ++ hex_word n
+value_text (values.Dword n) = codes "16#" ++ hex_double n
 
 -- ---- JSON
 

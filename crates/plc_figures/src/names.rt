@@ -90,6 +90,7 @@ pub fn put_place(out: &mut Vec<u8>, place: Loc) -> Result<(), AllocError>
     match place {
         Loc::Bit(area, number) => put_bit(out, area, number),
         Loc::Word(area, number) => put_word(out, area, number),
+        Loc::Pattern(area, number) => put_word(out, area, number),
         Loc::Double(area, number, ty) => put_double(out, area, number, ty),
     }
 }

@@ -221,12 +221,12 @@ fn put_process(out: &mut Vec<u8>, process: Option<Process>) -> Result<(), AllocE
     }
 }
 
-/// A value: 0 and 1 for a bit, a whole number, or the text of a REAL.
+/// A value: 0 and 1 for a bit, a whole number, or the text of a REAL or of a bit string.
 fn put_value_json(out: &mut Vec<u8>, value: Value) -> Result<(), AllocError>
     ensures { OnOk result (IsAdded out.old.items (value_json value) out.new.items) }
 {
     match value {
-        Value::Real(_) => {
+        Value::Real(_) | Value::Word(_) | Value::Dword(_) => {
             put(out, b"\"")?;
             put_value(out, value)?;
             put(out, b"\"")?;

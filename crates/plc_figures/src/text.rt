@@ -4,7 +4,7 @@ ghost use Rattle.std.specs.Prelude.{◌≡◌, ◌<◌, ◌+◌, ◌/◌, ◌%�
 ghost use Rattle.std.specs.Fmt.{signed_decimal};
 ghost use Rattle.plc_figures.specs.Texts.{digits_six, seconds_text, value_text, IsAdded};
 
-use il_model::Value;
+use il_model::{Value, halves, hex_word};
 use itoa::Buffer;
 use std::alloc::AllocError;
 
@@ -41,7 +41,7 @@ pub fn put_signed(out: &mut Vec<u8>, number: i64) -> Result<(), AllocError>
     Ok(())
 }
 
-/// Adds a value: 0 and 1 for a bit, a whole number, or a REAL, as `12.5`.
+/// Adds a value: 0 and 1 for a bit, a whole number, a REAL, as `12.5`, or a bit string, as `16#00FF`.
 pub fn put_value(out: &mut Vec<u8>, value: Value) -> Result<(), AllocError>
     ensures { OnOk result (IsAdded out.old.items (value_text value) out.new.items) }
 {
@@ -55,6 +55,16 @@ pub fn put_value(out: &mut Vec<u8>, value: Value) -> Result<(), AllocError>
         Value::Real(number) => {
             let text = number.text();
             put(out, text.as_str().as_bytes())
+        }
+        Value::Word(bits) => {
+            put(out, b"16#")?;
+            put(out, &hex_word(bits))
+        }
+        Value::Dword(bits) => {
+            let (high, low) = halves(bits);
+            put(out, b"16#")?;
+            put(out, &hex_word(high))?;
+            put(out, &hex_word(low))
         }
     }
 }

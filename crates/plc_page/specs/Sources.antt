@@ -10,7 +10,7 @@ use Rattle.il_model.specs.declared.program.Area.TheVariants as areas
 use Rattle.il_model.specs.declared.value.Value.{Value}
 use Rattle.il_model.specs.declared.value.Value.TheVariants as values
 use Rattle.il_model.specs.Locations.{area_of}
-use Rattle.il_model.specs.Doubles.{double_value}
+use Rattle.il_model.specs.Doubles.{word_value, double_value}
 use Rattle.il_model.specs.declared.program.Loc.TheVariants as places
 use Rattle.vr_shown.specs.declared.shown.Shown.{Shown}
 use Rattle.vr_shown.specs.Showing.{nothing_shown}
@@ -62,6 +62,7 @@ word_at cells number = get_or cells.words number (pos 0)
 abbrev pub value_at : Cells → Loc → Value
 value_at cells (places.Bit area number) = values.Bool (get_or cells.bits number false)
 value_at cells (places.Word area number) = values.Int (word_at cells number)
+value_at cells (places.Pattern area number) = word_value (word_at cells number)
 value_at cells (places.Double area number t) = double_value t (word_at cells number) (word_at cells (suc number))
 
 -- a name with what there is at its place

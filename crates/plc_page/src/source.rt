@@ -9,7 +9,7 @@ ghost use Rattle.plc_page.specs.Sources.{named_output, output_of, spelt, spelt_o
 use crate::notices::Notices;
 use crate::process::ProcessFiles;
 use crate::whose::Whose;
-use il_model::{Area, Cells, Loc, Value, Variable};
+use il_model::{Area, Cells, Loc, Value, Variable, word_value};
 use io_image::{Naming, ReleasedReader};
 use plc_figures::{Clients, Halt, Machine, Point, Reading, Replica, Scans};
 use plc_host::Host;
@@ -99,6 +99,7 @@ fn value_at(cells: &Cells, place: Loc) -> Value
             None => Value::Bool(false),
         },
         Loc::Word(_, number) => Value::Int(word_at(cells, usize::from(number))),
+        Loc::Pattern(_, number) => word_value(word_at(cells, usize::from(number))),
         Loc::Double(_, number, ty) => {
             let high = word_at(cells, usize::from(number));
             let low = word_at(cells, usize::from(number) + 1);

@@ -5,7 +5,7 @@ use Rattle.std.specs.Fmt.{decimal}
 use Rattle.il_model.specs.declared.program.Area.{Area}
 use Rattle.il_model.specs.declared.program.Area.TheVariants.{Input, Output, Memory}
 use Rattle.il_model.specs.declared.program.Loc.{Loc}
-use Rattle.il_model.specs.declared.program.Loc.TheVariants.{Bit, Word, Double}
+use Rattle.il_model.specs.declared.program.Loc.TheVariants.{Bit, Word, Pattern, Double}
 use Rattle.il_model.specs.declared.program.Variable.{Variable}
 use Rattle.il_model.specs.Program.{Program}
 use Rattle.il_lister.specs.Listing.{area_letter, type_name}
@@ -15,6 +15,7 @@ abbrev pub place_text : Loc → List ℕ
 place_text (Bit area n) =
     codes "%" ++ area_letter area ++ codes "X" ++ decimal (n / 8) ++ codes "." ++ decimal (n % 8)
 place_text (Word area n) = codes "%" ++ area_letter area ++ codes "W" ++ decimal n
+place_text (Pattern area n) = codes "%" ++ area_letter area ++ codes "W" ++ decimal n
 place_text (Double area n t) = codes "%" ++ area_letter area ++ codes "D" ++ decimal n
 
 -- the table of Modbus that has it, and its address there, that of the first of two registers for a double word; nothing
@@ -32,6 +33,7 @@ word_table Memory n = codes ","
 abbrev pub table_text : Loc → List ℕ
 table_text (Bit area n) = bit_table area n
 table_text (Word area n) = word_table area n
+table_text (Pattern area n) = word_table area n
 table_text (Double area n t) = word_table area n
 
 -- place, table and address; of a variable that has no place none of these

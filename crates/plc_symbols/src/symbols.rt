@@ -46,9 +46,8 @@ fn table(alloc: Global, loc: Loc) -> Result<Vec<u8>, AllocError>
 {
     match loc {
         Loc::Bit(area, number) => table_of_bit(alloc, area, number),
-        Loc::Word(area, number) | Loc::Double(area, number, _) => {
-            table_of_word(alloc, area, number)
-        }
+        Loc::Word(area, number) | Loc::Pattern(area, number) => table_of_word(alloc, area, number),
+        Loc::Double(area, number, _) => table_of_word(alloc, area, number),
     }
 }
 

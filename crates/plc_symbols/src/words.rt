@@ -19,6 +19,8 @@ pub fn name_of(ty: Ty) -> &'static [u8]
         Ty::Time => b"TIME",
         Ty::Lint => b"LINT",
         Ty::Real => b"REAL",
+        Ty::Word => b"WORD",
+        Ty::Dword => b"DWORD",
     }
 }
 
@@ -47,7 +49,7 @@ pub fn place(alloc: Global, loc: Loc) -> Result<Vec<u8>, AllocError>
             text.extend_from_slice(b".")?;
             text.extend_from_slice(buffer.format(number % 8).as_bytes())?;
         }
-        Loc::Word(area, number) => {
+        Loc::Word(area, number) | Loc::Pattern(area, number) => {
             text.extend_from_slice(letter_of(area))?;
             text.extend_from_slice(b"W")?;
             text.extend_from_slice(buffer.format(number).as_bytes())?;

@@ -27,10 +27,12 @@ counted w bytes = to_be_bytes w (length bytes) ++ bytes
 
 -- ---- values
 
--- the number of a LINT or a REAL has 64 bits, that of any other type 32
+-- the number of a LINT, a REAL or a bit string has 64 bits, that of any other type 32
 abbrev pub type_width : Ty → Width
 type_width types.Lint = w64
 type_width types.Real = w64
+type_width types.Word = w64
+type_width types.Dword = w64
 type_width _ = w32
 
 abbrev pub number_bytes : Ty → ℤ → List ℕ
