@@ -73,8 +73,8 @@ words_leave_bits false a words c n = refl
 shown_in : (p : Kind) (a m : ℕ) (reply : Reply) (c : Cells) (kind : Kind) (n : ℕ) → a + m ≤ area_length p → IsWhole c
     → is_some (shown_at p a m reply) ≡ true → cell_at (after_some c (shown_at p a m reply)) kind n
     ≡ (if is_one_kind p kind && (nat_le a n && nat_lt n (a + m)) then value_shown reply (n - a) else cell_at c kind n)
-shown_in Bits a m (replies.Bits bits) c Bits n h w e = shown_bits (length bits.items == m) a m bits.items c n refl h w e
-shown_in Bits a m (replies.Bits bits) c Words n h w e = bits_leave_words (length bits.items == m) a bits.items c n
+shown_in Bits a m (replies.Bits bits) c Bits n h w e = shown_bits (length bits == m) a m bits c n refl h w e
+shown_in Bits a m (replies.Bits bits) c Words n h w e = bits_leave_words (length bits == m) a bits c n
 shown_in Words a m (replies.Words words) c Words n h w e = shown_words (length words.items == m) a m words.items c n refl h w e
 shown_in Words a m (replies.Words words) c Bits n h w e = words_leave_bits (length words.items == m) a words.items c n
 shown_in Bits a m (replies.Words words) c kind n h w e = absurd cc
@@ -100,7 +100,7 @@ words_whole true a m words c q h w =
 
 shown_whole : (p : Kind) (a m : ℕ) (reply : Reply) (c : Cells) → a + m ≤ area_length p → IsWhole c
     → IsWhole (after_some c (shown_at p a m reply))
-shown_whole Bits a m (replies.Bits bits) c h w = bits_whole (length bits.items == m) a m bits.items c refl h w
+shown_whole Bits a m (replies.Bits bits) c h w = bits_whole (length bits == m) a m bits c refl h w
 shown_whole Words a m (replies.Words words) c h w = words_whole (length words.items == m) a m words.items c refl h w
 shown_whole Bits a m (replies.Words words) c h w = w
 shown_whole Bits a m replies.Done c h w = w

@@ -63,7 +63,7 @@ read_request r = read_by r.places.kind r.table r.address r.places.count
 
 abbrev pub write_by : Kind → ℕ → ℕ → ℕ → Cells → Request
 write_by kinds.Bits address from count cells =
-    WriteBits address (record { items = slice_range cells.bits from (from + count) })
+    WriteBits address (slice_range cells.bits from (from + count))
 write_by kinds.Words address from count cells =
     WriteWords address (record { items = slice_range cells.words from (from + count) })
 
@@ -102,7 +102,7 @@ output_request w outputs = output_by w outputs.known outputs.written
 
 -- what a reply shows of so many cells of a kind, as a write of these places
 abbrev pub shown_at : Kind → ℕ → ℕ → Reply → Option Change
-shown_at kinds.Bits from count (Bits bits) = if length bits.items == count then Some (bits_at from bits.items) else None
+shown_at kinds.Bits from count (Bits bits) = if length bits == count then Some (bits_at from bits) else None
 shown_at kinds.Words from count (Words words) =
     if length words.items == count then Some (words_at from words.items) else None
 shown_at _ from count _ = None

@@ -91,7 +91,7 @@ gathered_of _ _ c = c
 
 -- the value with this number of those that a reply shows
 abbrev pub value_shown : Reply → ℕ → Cell
-value_shown (Bits bits) k = bit (get_or bits.items k false)
+value_shown (Bits bits) k = bit (get_or bits k false)
 value_shown (Words words) k = word (get_or words.items k (pos 0))
 value_shown _ k = bit false
 

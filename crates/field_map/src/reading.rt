@@ -27,6 +27,7 @@ pub struct Reading {
     pub places: Places,
     /// How its registers are taken.
     pub layout: Layout,
+    /// What its values are, for whoever looks at them.
     pub form: Form,
     ghost whole: { is_whole layout places.kind places.count ≡ true },
 }
@@ -39,6 +40,7 @@ pub struct Writing {
     pub places: Places,
     /// How its registers are taken.
     pub layout: Layout,
+    /// What its values are, for whoever looks at them.
     pub form: Form,
     /// Whether it's written only where the device doesn't have its values yet.
     pub on_change: bool,

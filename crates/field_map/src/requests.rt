@@ -11,17 +11,6 @@ use crate::reading::{Fallback, Outputs, Reading, Writing};
 use il_model::{BITS, Cells, WORDS};
 use modbus_wire::{Bits, Reply, Request, Words};
 
-/// These bits as those of a request.
-fn bits_from(bits: &[bool]) -> Bits
-    requires { length bits.now ≤ 2000 }
-    ensures { result.items ≡ bits.now }
-{
-    match Bits::try_from(bits) {
-        Ok(bits) => bits,
-        Err(_) => unreachable!(),
-    }
-}
-
 /// These words as those of a request.
 pub(crate) fn words_from(words: &[i16]) -> Words
     requires { length words.now ≤ 125 }
@@ -43,7 +32,7 @@ impl Places {
         match self.kind {
             Kind::Bits => Request::WriteBits {
                 address,
-                values: bits_from(&cells.bits[self.from..end]),
+                values: Bits::new(&cells.bits[self.from..end]),
             },
             Kind::Words => Request::WriteWords {
                 address,
@@ -123,7 +112,7 @@ impl Reading {
         let Places { kind, from, count } = self.places;
         match (kind, reply) {
             (Kind::Bits, Reply::Bits(bits)) if bits.len() == count => {
-                cells.bits[from..from + count].copy_from_slice(bits.as_slice());
+                cells.bits[from..from + count].copy_from_slice(bits.values().as_slice());
                 true
             }
             (Kind::Words, Reply::Words(words)) => {

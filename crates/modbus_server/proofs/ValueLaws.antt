@@ -116,7 +116,7 @@ word_by (WriteWord at value) = value
 word_by _ = pos 0
 
 abbrev bits_by : Request → List Bool
-bits_by (WriteBits at values) = values.items
+bits_by (WriteBits at values) = values
 bits_by _ = []
 
 abbrev words_by : Request → List ℤ
@@ -151,10 +151,10 @@ all_served back (WriteBits at values) staged released refused h l =
     let r : Request = WriteBits at values in
     let pdu : List ℕ = request_bytes r in
     let s = says back r h l in
-    let v : bits_of_bytes (drop 6 pdu) (number_at pdu 3) ≡ values.items = ap bits_by s.1 in
-    let q : number_at pdu 3 ≡ length values.items = sym (length-map-range_with_len _ 0 (number_at pdu 3)) ∙ ap (λ (z : List Bool). length z) v in
-    let w : bits_of_bytes (drop 6 pdu) (length values.items) ≡ values.items = ap (bits_of_bytes (drop 6 pdu)) (sym q) ∙ v in
-    served_by r staged released refused at (length values.items) true s.0 (record { address = ap address_of s.1; quantity = q; writes = refl; there = and_true (nat_le (at + length values.items) BITS) }) refl
+    let v : bits_of_bytes (drop 6 pdu) (number_at pdu 3) ≡ values = ap bits_by s.1 in
+    let q : number_at pdu 3 ≡ length values = sym (length-map-range_with_len _ 0 (number_at pdu 3)) ∙ ap (λ (z : List Bool). length z) v in
+    let w : bits_of_bytes (drop 6 pdu) (length values) ≡ values = ap (bits_of_bytes (drop 6 pdu)) (sym q) ∙ v in
+    served_by r staged released refused at (length values) true s.0 (record { address = ap address_of s.1; quantity = q; writes = refl; there = and_true (nat_le (at + length values) BITS) }) refl
     (ap (λ (z : List Bool). write_outcome refused pdu (bits_at at z) (take 5 pdu)) w)
 all_served back (WriteWords at values) staged released refused h l =
     let r : Request = WriteWords at values in

@@ -19,7 +19,7 @@ are_there (ReadBits table at count) = nat_le (at + count) BITS
 are_there (ReadWords table at count) = nat_le (at + count) WORDS
 are_there (WriteBit at value) = nat_le (at + 1) BITS
 are_there (WriteWord at value) = nat_le (at + 1) WORDS
-are_there (WriteBits at values) = nat_le (at + length values.items) BITS
+are_there (WriteBits at values) = nat_le (at + length values) BITS
 are_there (WriteWords at values) = nat_le (at + length values.items) WORDS
 are_there (MaskWord at and_mask or_mask) = nat_le (at + 1) WORDS
 are_there (WriteReadWords at count into values) = nat_le (at + count) WORDS
@@ -31,7 +31,7 @@ change_by (ReadBits table at count) = None
 change_by (ReadWords table at count) = None
 change_by (WriteBit at value) = Some (bits_at at (value ∷ []))
 change_by (WriteWord at value) = Some (words_at at (value ∷ []))
-change_by (WriteBits at values) = Some (bits_at at values.items)
+change_by (WriteBits at values) = Some (bits_at at values)
 change_by (WriteWords at values) = Some (words_at at values.items)
 change_by (MaskWord at and_mask or_mask) = Some (mask_at at and_mask or_mask)
 change_by (WriteReadWords at count into values) = Some (words_at into values.items)
@@ -39,7 +39,7 @@ change_by (WriteReadWords at count into values) = Some (words_at into values.ite
 -- what its reply says, if it's taken
 abbrev pub shown_by : Request → Cells → Cells → Reply
 shown_by (ReadBits table at count) staged released = Bits
-    (record { items = slice_range (table_cells table staged released).bits at (at + count) })
+    (slice_range (table_cells table staged released).bits at (at + count))
 shown_by (ReadWords table at count) staged released = Words
     (record { items = slice_range (table_cells table staged released).words at (at + count) })
 shown_by (WriteReadWords at count into values) staged released = Words

@@ -81,12 +81,12 @@ failed_back code number what = is_taken (is_failure code (bit_or code 128 ∷ nu
 back_by : (code : ℕ) (what : Expected) (reply : Reply) → (code == bit_or code 128) ≡ false → NoFailure code what → FitsReply reply → suits_by what reply ≡ true
     → reply_by code what (bytes_by code what reply) ≡ Some reply
 back_by code (ManyBits quantity) (Bits bits) h k fits s =
-    let bytes : List ℕ = bytes_of_bits bits.items in
-    let q : length bits.items ≡ quantity = eqb-true (length bits.items) quantity s in
-    let size : length bytes ≡ (quantity + 7) / 8 = length_bytes_of_bits bits.items ∙ ap (λ (n : ℕ). (n + 7) / 8) q in
-    let v : bits_of_bytes bytes quantity ≡ bits.items = ap (bits_of_bytes bytes) (sym q) ∙ bits_back bits.items in
+    let bytes : List ℕ = bytes_of_bits bits in
+    let q : length bits ≡ quantity = eqb-true (length bits) quantity s in
+    let size : length bytes ≡ (quantity + 7) / 8 = length_bytes_of_bits bits ∙ ap (λ (n : ℕ). (n + 7) / 8) q in
+    let v : bits_of_bytes bytes quantity ≡ bits = ap (bits_of_bytes bytes) (sym q) ∙ bits_back bits in
     other (is_failure code (code ∷ counted bytes)) (Failed (length bytes)) (done_by code (ManyBits quantity) (code ∷ counted bytes)) (Some (Bits bits)) (shown_no_failure code bytes h)
-    (taken (is_shown code ((quantity + 7) / 8) (code ∷ counted bytes)) (Bits (record { items = bits_of_bytes bytes quantity })) (Bits bits) (shown_is code ((quantity + 7) / 8) bytes size) (λ i. Bits (record { items = v i })))
+    (taken (is_shown code ((quantity + 7) / 8) (code ∷ counted bytes)) (Bits (bits_of_bytes bytes quantity)) (Bits bits) (shown_is code ((quantity + 7) / 8) bytes size) (λ i. Bits (v i)))
 back_by code (ManyWords quantity) (Words words) h k fits s =
     let bytes : List ℕ = bytes_of_words words.items in
     let q : length words.items ≡ quantity = eqb-true (length words.items) quantity s in

@@ -78,15 +78,15 @@ read_back (WriteWord address value) h l =
     taken (is_lawful functions.WriteWord pdu) (value_of functions.WriteWord pdu) (WriteWord address value) refl (λ i. WriteWord (a i) (z i))
 read_back (WriteBits address values) h l =
     let pdu : List ℕ = request_bytes (WriteBits address values) in
-    let bytes : List ℕ = bytes_of_bits values.items in
-    let count : ℕ = length values.items in
+    let bytes : List ℕ = bytes_of_bits values in
+    let count : ℕ = length values in
     let a : number_at pdu 1 ≡ address = omega (arith, two_bytes address h) in
     let q : number_at pdu 3 ≡ count = omega (arith, two_bytes count (count_small 1968 count l (omega arith))) in
-    let size : length bytes ≡ (number_at pdu 3 + 7) / 8 = length_bytes_of_bits values.items ∙ ap (λ (n : ℕ). (n + 7) / 8) (sym q) in
+    let size : length bytes ≡ (number_at pdu 3 + 7) / 8 = length_bytes_of_bits values ∙ ap (λ (n : ℕ). (n + 7) / 8) (sym q) in
     let whole : length pdu ≡ 6 + (number_at pdu 3 + 7) / 8 = omega (arith, size) in
-    let v : bits_of_bytes bytes (number_at pdu 3) ≡ values.items = ap (bits_of_bytes bytes) q ∙ bits_back values.items in
+    let v : bits_of_bytes bytes (number_at pdu 3) ≡ values = ap (bits_of_bytes bytes) q ∙ bits_back values in
     taken (is_lawful functions.WriteBits pdu) (value_of functions.WriteBits pdu) (WriteBits address values)
-    (counted_passes 1968 (number_at pdu 3) count (length pdu) (length bytes) ((number_at pdu 3 + 7) / 8) l q size whole) (λ i. WriteBits (a i) (record { items = v i }))
+    (counted_passes 1968 (number_at pdu 3) count (length pdu) (length bytes) ((number_at pdu 3 + 7) / 8) l q size whole) (λ i. WriteBits (a i) (v i))
 read_back (WriteWords address values) h l =
     let pdu : List ℕ = request_bytes (WriteWords address values) in
     let bytes : List ℕ = bytes_of_words values.items in

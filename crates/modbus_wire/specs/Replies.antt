@@ -43,7 +43,7 @@ expected (requests.WriteBit address value) = Echo (record { items = request_byte
 expected (requests.WriteWord address value) = Echo
     (record { items = request_bytes (requests.WriteWord address value) })
 expected (requests.WriteBits address values) = Echo
-    (record { items = 15 ∷ two_numbers address (length values.items) })
+    (record { items = 15 ∷ two_numbers address (length values) })
 expected (requests.WriteWords address values) = Echo
     (record { items = 16 ∷ two_numbers address (length values.items) })
 expected (requests.MaskWord address and_mask or_mask) = Echo
@@ -52,7 +52,7 @@ expected (requests.WriteReadWords address quantity write_address values) = ManyW
 
 -- Values are as many as are expected; any request may fail.
 abbrev pub suits_by : Expected → Reply → Bool
-suits_by (ManyBits quantity) (Bits bits) = length bits.items == quantity
+suits_by (ManyBits quantity) (Bits bits) = length bits == quantity
 suits_by (ManyWords quantity) (Words words) = length words.items == quantity
 suits_by (Echo bytes) Done = true
 suits_by _ (Failed number) = true
@@ -66,7 +66,7 @@ suits r reply = is_request r && suits_by (expected r) reply
 -- echo
 abbrev pub bytes_by : ℕ → Expected → Reply → List ℕ
 bytes_by code _ (Failed number) = bit_or code 128 ∷ number ∷ []
-bytes_by code _ (Bits bits) = code ∷ counted (bytes_of_bits bits.items)
+bytes_by code _ (Bits bits) = code ∷ counted (bytes_of_bits bits)
 bytes_by code _ (Words words) = code ∷ counted (bytes_of_words words.items)
 bytes_by code (Echo echo) Done = echo.items
 bytes_by code _ Done = []
@@ -87,7 +87,7 @@ is_shown code count bytes = nat_le 2 (length bytes) && ((slice_index bytes 0 == 
 
 abbrev pub done_by : ℕ → Expected → List ℕ → Option Reply
 done_by code (ManyBits quantity) bytes =
-    if is_shown code ((quantity + 7) / 8) bytes then Some (Bits (record { items = bits_of_bytes (drop 2 bytes) quantity }))
+    if is_shown code ((quantity + 7) / 8) bytes then Some (Bits (bits_of_bytes (drop 2 bytes) quantity))
     else None
 done_by code (ManyWords quantity) bytes =
     if is_shown code (2 * quantity) bytes then Some (Words (record { items = words_of_bytes (drop 2 bytes) quantity }))

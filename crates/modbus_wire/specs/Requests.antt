@@ -35,7 +35,7 @@ is_request (ReadBits table address quantity) = is_count 2000 quantity
 is_request (ReadWords table address quantity) = is_count 125 quantity
 is_request (WriteBit address value) = true
 is_request (WriteWord address value) = true
-is_request (WriteBits address values) = is_count 1968 (length values.items)
+is_request (WriteBits address values) = is_count 1968 (length values)
 is_request (WriteWords address values) = is_count 123 (length values.items)
 is_request (MaskWord address and_mask or_mask) = true
 is_request (WriteReadWords address quantity write_address values) = is_count 125 quantity
@@ -59,8 +59,8 @@ request_bytes (ReadBits table address quantity) = code_of (functions.ReadBits ta
 request_bytes (ReadWords table address quantity) = code_of (functions.ReadWords table) ∷ two_numbers address quantity
 request_bytes (WriteBit address value) = 5 ∷ two_numbers address (bit_number value)
 request_bytes (WriteWord address value) = 6 ∷ two_numbers address (cast_unsigned w16 value)
-request_bytes (WriteBits address values) = 15 ∷ (two_numbers address (length values.items)
-    ++ counted (bytes_of_bits values.items))
+request_bytes (WriteBits address values) = 15 ∷ (two_numbers address (length values)
+    ++ counted (bytes_of_bits values))
 request_bytes (WriteWords address values) = 16 ∷ (two_numbers address (length values.items)
     ++ counted (bytes_of_words values.items))
 request_bytes (MaskWord address and_mask or_mask) = 22 ∷ (two_numbers address and_mask ++ big_bytes 2 or_mask)
@@ -73,8 +73,7 @@ value_of (functions.ReadBits table) pdu = ReadBits table (number_at pdu 1) (numb
 value_of (functions.ReadWords table) pdu = ReadWords table (number_at pdu 1) (number_at pdu 3)
 value_of functions.WriteBit pdu = WriteBit (number_at pdu 1) (number_at pdu 3 == 65280)
 value_of functions.WriteWord pdu = WriteWord (number_at pdu 1) (cast_signed w16 (number_at pdu 3))
-value_of functions.WriteBits pdu = WriteBits (number_at pdu 1)
-    (record { items = bits_of_bytes (drop 6 pdu) (number_at pdu 3) })
+value_of functions.WriteBits pdu = WriteBits (number_at pdu 1) (bits_of_bytes (drop 6 pdu) (number_at pdu 3))
 value_of functions.WriteWords pdu = WriteWords (number_at pdu 1)
     (record { items = words_of_bytes (drop 6 pdu) (number_at pdu 3) })
 value_of functions.MaskWord pdu = MaskWord (number_at pdu 1) (number_at pdu 3) (number_at pdu 5)

@@ -1,17 +1,30 @@
 //! Bits and words as bytes.
-ghost use Rattle.std.specs.Prelude.{◌≡◌, ◌+◌, ◌*◌, ◌/◌, ◌≤◌, ◌<◌, ◌++◌, ◌∷◌, [], length, FitsSigned};
+ghost use Rattle.std.specs.Prelude.{◌≡◌, ◌+◌, ◌*◌, ◌/◌, ◌≤◌, ◌<◌, ◌++◌, ◌∷◌, [], Bool, List, length, FitsSigned};
 ghost use Rattle.std.specs.List.{AllByRecursion};
 ghost use Rattle.std.specs.Int.{w16};
 ghost use Rattle.modbus_wire.specs.Packing.{bit_value, byte_of, bytes_of_bits, bit_of, bits_of_bytes};
 ghost use Rattle.modbus_wire.specs.Packing.{bytes_of_words, word_of, words_of_bytes};
 ghost use Rattle.arrayvec.specs.ArrayVec.{array_vec_len};
 
-use crate::adu::Pdu;
+use crate::adu::{Pdu, pdu_of};
 use crate::header::number_at;
 use arrayvec::ArrayVec;
+use std::marker::Model;
 
-/// Bits of a request or of a reply.
-pub type Bits = ArrayVec<bool, 2000>;
+/// Bits of a request or of a reply, 2000 at most: eight to a byte, so that they take no more room than words do.
+#[derive(Drop)]
+pub struct Bits {
+    bytes: Pdu,
+    count: u16,
+}
+
+impl Model for Bits {
+    ghost Value = { List Bool };
+
+    ghost view = { λ b. bits_of_bytes b.bytes.items b.count };
+
+    ghost invariant = { λ b. (b.count ≤ 2000) × (b.count ≤ 8 * length b.bytes.items) };
+}
 
 /// Words of a request or of a reply.
 pub type Words = ArrayVec<i16, 125>;
@@ -72,7 +85,7 @@ fn bit_of(bytes: &[u8], n: usize) -> bool
 }
 
 /// So many bits of these bytes, the lowest first.
-pub fn bits_of(bytes: &[u8], count: usize) -> Bits
+pub fn bits_of(bytes: &[u8], count: usize) -> ArrayVec<bool, 2000>
     requires { (count ≤ 2000) × (count ≤ 8 * length bytes.now) }
     ensures { result.items ≡ bits_of_bytes bytes.now count }
 {
@@ -81,6 +94,48 @@ pub fn bits_of(bytes: &[u8], count: usize) -> Bits
         bits.push(bit_of(bytes, n));
     }
     bits
+}
+
+impl Bits {
+    /// These bits, of which there are 2000 at most.
+    #[tactic(auto, using(crate::proofs::Cells::bits_back, crate::proofs::Lengths::length_bytes_of_bits))]
+    pub fn new(bits: &[bool]) -> Bits
+        requires { length bits.now ≤ 2000 }
+        ensures { result ≡ bits.now }
+    {
+        let mut bytes = Pdu::new();
+        put_bits(&mut bytes, bits);
+        Bits {
+            bytes,
+            count: bits.len() as u16,
+        }
+    }
+
+    /// So many bits of these bytes, the lowest first.
+    pub(crate) fn of_bytes(bytes: &[u8], count: usize) -> Bits
+        requires { (count ≤ 2000) × (count ≤ 8 * length bytes.now) × (length bytes.now ≤ 253) }
+        ensures { result ≡ bits_of_bytes bytes.now count }
+    {
+        Bits {
+            bytes: pdu_of(bytes),
+            count: count as u16,
+        }
+    }
+
+    /// How many there are.
+    #[tactic(auto, using(crate::proofs::Lengths::length_bits_of_bytes))]
+    pub fn len(&self) -> usize
+        ensures { result ≡ length self.now }
+    {
+        usize::from(self.count)
+    }
+
+    /// Each of them by itself.
+    pub fn values(&self) -> ArrayVec<bool, 2000>
+        ensures { result.items ≡ self.now }
+    {
+        bits_of(self.bytes.as_slice(), usize::from(self.count))
+    }
 }
 
 fn word_of(bytes: &[u8], k: usize) -> i16

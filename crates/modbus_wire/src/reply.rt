@@ -12,7 +12,7 @@ ghost use Rattle.modbus_wire.specs.Replies.{AreRepliesReadBack, IsFew};
 
 use crate::adu::{Pdu, pdu_of};
 use crate::function::has_bytes;
-use crate::packing::{Bits, Words, bits_of, put_bits, put_words, words_of};
+use crate::packing::{Bits, Words, put_bits, put_words, words_of};
 use crate::request::Request;
 
 /// What a server answers to a request.
@@ -96,7 +96,7 @@ fn bits_in(code: u8, quantity: usize, bytes: &[u8]) -> Option<Reply>
     ensures { result ≡ done_by code (expects.ManyBits quantity) bytes.now }
 {
     if is_shown(code, (quantity + 7) / 8, bytes) {
-        Some(Reply::Bits(bits_of(&bytes[2..], quantity)))
+        Some(Reply::Bits(Bits::of_bytes(&bytes[2..], quantity)))
     } else {
         None
     }
@@ -145,7 +145,7 @@ impl Expected {
         match (self, reply) {
             (_, Reply::Failed(number)) => Some(pdu_of(&[code | 0x80, *number])),
             (Expected::ManyBits(quantity), Reply::Bits(bits)) if bits.len() == *quantity => {
-                Some(bits_shown(code, bits.as_slice()))
+                Some(bits_shown(code, bits.values().as_slice()))
             }
             (Expected::ManyWords(quantity), Reply::Words(words)) if words.len() == *quantity => {
                 Some(words_shown(code, words.as_slice()))

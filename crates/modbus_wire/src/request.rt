@@ -16,7 +16,7 @@ use crate::adu::{Pdu, pdu_of};
 use crate::exception::Exception;
 use crate::function::{Function, Table};
 use crate::header::number_at;
-use crate::packing::{Bits, Words, bits_of, put_bits, put_words, words_of};
+use crate::packing::{Bits, Words, put_bits, put_words, words_of};
 use crate::reply::Expected;
 
 /// A request. An address counts from 0, as it does in a PDU; words are in two's complement.
@@ -122,12 +122,12 @@ fn mask_request(address: u16, and_mask: u16, or_mask: u16) -> Pdu
 /// The request that writes these bits.
 #[tactic(auto, using(crate::proofs::Lengths::length_bytes_of_bits))]
 fn bits_request(address: u16, values: &Bits) -> Pdu
-    requires { length values.now.items ≤ 1968 }
+    requires { length values.now ≤ 1968 }
     ensures { result.items ≡ request_bytes (requests.WriteBits address values.now) }
 {
     let mut pdu = head(15, address, values.len() as u16);
     pdu.push(((values.len() + 7) / 8) as u8);
-    put_bits(&mut pdu, values.as_slice());
+    put_bits(&mut pdu, values.values().as_slice());
     pdu
 }
 
@@ -182,7 +182,7 @@ fn value_of(function: Function, pdu: &[u8]) -> Request
         },
         Function::WriteBits => Request::WriteBits {
             address,
-            values: bits_of(&pdu[6..], usize::from(number_at(pdu, 3))),
+            values: Bits::of_bytes(&pdu[6..], usize::from(number_at(pdu, 3))),
         },
         Function::WriteWords => Request::WriteWords {
             address,
