@@ -112,6 +112,17 @@ pub(crate) fn waited<R: MachineRuntime, E: CountedWrite>(
     Ok(gone)
 }
 
+/// Receives once by the link of a replica that isn't there, so that what comes is lost: whether the link has closed.
+fn has_closed<L: Link>(link: &mut L) -> bool {
+    match link.recv() {
+        Input::Closed => true,
+        input => {
+            drop(input);
+            false
+        }
+    }
+}
+
 impl Antechamber {
     /// Turn by turn, until its machine may begin an epoch, or its life ends otherwise. What is noted meanwhile is
     /// printed to `err` by this printer of its journal.
@@ -127,8 +138,7 @@ impl Antechamber {
             if self.stop.is_asked() {
                 return Gone::Stopped;
             }
-            // What comes is for a replica that isn't there: it's lost.
-            if let Input::Closed = life.linked.replica.recv() {
+            if has_closed(&mut life.linked.replica) {
                 return Gone::Failed(Failed::Connection);
             }
             let waited = life.keeper.wait();

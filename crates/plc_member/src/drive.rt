@@ -165,6 +165,7 @@ where
         self.saves.end();
         let parting = self.cut(parting);
         self.teller.end();
+        drop(self);
         parting
     }
 
@@ -463,7 +464,11 @@ where
     {
         let now = self.elapsed()?;
         match self.requester.receive(now)? {
-            Some(message) => self.take(&message),
+            Some(message) => {
+                let taken = self.take(&message);
+                drop(message);
+                taken
+            }
             None => Ok(()),
         }
     }

@@ -29,7 +29,7 @@
 //! that turned (`Majority`, `by_hand_notice`, `hang_notice`). By its type: a store gets a later epoch only from the end of
 //! a life (`Left`).
 //!
-//! By its code alone, and tested (`tests_machines`, `tools/try-machines`): how threads, locks, sockets and times are
+//! By its code alone, and tested (`tools/try-machines`): how threads, locks, sockets and times are
 //! joined, so that the time of a clause is the present one and the inputs of a scan are one sample of the stage; that a
 //! held link asks `let_through`; that a machine which stopped while it began an epoch starts there as new, and had said
 //! nothing; that the port is open only while outputs are shown; that what a stage is filled with are the inputs of the
@@ -43,6 +43,7 @@
 mod antechamber;
 mod beginning;
 mod begun;
+mod both;
 mod by_hand;
 mod drive;
 mod ended;

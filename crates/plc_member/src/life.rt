@@ -6,6 +6,7 @@ ghost use Rattle.plc_epochs.specs.Table.{StartsAs};
 ghost use Rattle.plc_member.specs.Keeping.{begins_by_itself};
 
 use crate::begun::{Begun, ReplicaFiles, Surroundings};
+use crate::both::both;
 use crate::held_link::Hold;
 use crate::keeper::{Keeper, Terms};
 use crate::links::{Linked, hello_of, links_of, machine_of};
@@ -133,10 +134,12 @@ fn connected<R: MachineRuntime>(
 ) -> Result<(Linked<R>, Keeper<R>), Failed> {
     let cold_start = cold_start_of(group, origin);
     let machine = greeting_machine(host.alloc, group, origin, &cold_start)?;
-    let linked = linked_at(host, &machine, address)?;
-    let terms = terms_of(host.alloc, group, origin.is_marked, &linked.exchange)?;
-    let keeper = Keeper::new(host, cold_start, machine, terms)?;
-    Ok((linked, keeper))
+    let linked = linked_at(host, &machine, address);
+    let (machine, linked) = both(machine, linked)?;
+    let terms = terms_of(host.alloc, group, origin.is_marked, &linked.exchange);
+    let ((machine, linked), terms) = both((machine, linked), terms)?;
+    let keeper = Keeper::new(host, cold_start, machine, terms);
+    Ok(both(linked, keeper)?)
 }
 
 /// The life that begins so, at an address of its machine.
@@ -146,7 +149,8 @@ pub(crate) fn life_of<R: MachineRuntime>(
     origin: Origin,
     address: SocketAddr,
 ) -> Result<Life<R>, Failed> {
-    let (linked, keeper) = connected(host, group, &origin, address)?;
+    let connected = connected(host, group, &origin, address);
+    let (origin, (linked, keeper)) = both(origin, connected)?;
     Ok(Life {
         origin,
         linked,

@@ -6,6 +6,7 @@ ghost use Rattle.plc_member.specs.Keeping.{way_of};
 use crate::antechamber::{Gone, waited};
 use crate::beginning::Beginning;
 use crate::begun::{Begun, ReplicaFiles};
+use crate::both::both;
 use crate::ended::{Ended, Left};
 use crate::life::{Life, Origin, life_of};
 use crate::program::Marker;
@@ -53,6 +54,17 @@ enum Entered<R: MachineRuntime, S: Drop, M: Drop> {
     Begun(Begun<R, S, M>),
     /// It ended before that, and another one begins.
     Left,
+    /// It was asked to stop.
+    Stopped,
+}
+
+/// What comes of a life whose links are up.
+#[derive(Clone, Copy)]
+enum Outcome {
+    /// Its machine has begun its epoch, and its replica starts there for the first time, or again.
+    Starts { is_first: bool },
+    /// It ends before that, and its store is to have this.
+    Leaves(Kept),
     /// It was asked to stop.
     Stopped,
 }
@@ -192,15 +204,41 @@ where
         group: &Group,
         err: &mut E,
     ) -> Result<Entered<R, MachineStore<R>, Marker<R>>, Unserved> {
+        let mut life = self.life(host, group)?;
+        let outcome = self.outcome(host, &mut life, err);
+        let (life, outcome) = both(life, outcome)?;
+        match outcome {
+            Outcome::Starts { is_first } => Ok(Entered::Begun(self.begun(host, life, is_first)?)),
+            Outcome::Leaves(kept) => {
+                self.keep(host, Entry::Left(Left::unbegun(life, kept)), err)?;
+                Ok(Entered::Left)
+            }
+            Outcome::Stopped => {
+                drop(life);
+                Ok(Entered::Stopped)
+            }
+        }
+    }
+
+    /// The life that begins from its store now, whose links are up.
+    fn life(&mut self, host: Host<R>, group: &Group) -> Result<Life<R>, Unserved> {
         let origin = self.origin(host, group)?;
         let Some(place) = group.machines.get(usize::from(origin.header.machine)) else {
             return Err(Unserved::Refused(Refusal::OtherMachine));
         };
-        let way = way_of(origin.header.kept, origin.start);
-        let life = life_of(host, group, origin, place.replica)?;
-        match way {
-            Way::StartsAsNew => self.go_on(host, life, true),
-            Way::StartsAgain => self.go_on(host, life, false),
+        Ok(life_of(host, group, origin, place.replica)?)
+    }
+
+    /// What comes of a life whose links are up, by what its store kept as it began.
+    fn outcome<E: CountedWrite>(
+        &self,
+        host: Host<R>,
+        life: &mut Life<R>,
+        err: &mut E,
+    ) -> Result<Outcome, Unserved> {
+        match way_of(life.origin.header.kept, life.origin.start) {
+            Way::StartsAsNew => Ok(Outcome::Starts { is_first: true }),
+            Way::StartsAgain => Ok(Outcome::Starts { is_first: false }),
             Way::Waits => self.wait(host, life, err),
         }
     }
@@ -249,56 +287,49 @@ where
     fn wait<E: CountedWrite>(
         &self,
         host: Host<R>,
-        mut life: Life<R>,
+        life: &mut Life<R>,
         err: &mut E,
-    ) -> Result<Entered<R, MachineStore<R>, Marker<R>>, Unserved> {
+    ) -> Result<Outcome, Unserved> {
         let stop = self.stop.another()?;
-        match waited(host.alloc, &mut life, stop, err)? {
-            Gone::Stopped => Ok(Entered::Stopped),
+        match waited(host.alloc, life, stop, err)? {
+            Gone::Stopped => Ok(Outcome::Stopped),
             Gone::Failed(failed) => Err(Unserved::Failed(failed)),
-            Gone::Leaves(kept) => self.leave(host, Left::unbegun(life, kept), err),
-            Gone::Begins(epoch) => self.begin(host, life, epoch, err),
+            Gone::Leaves(kept) => Ok(Outcome::Leaves(kept)),
+            Gone::Begins(epoch) => {
+                // Its store has that before its replica says a word.
+                self.keep(host, Entry::Begins(epoch), err)?;
+                let _ = life.keeper.cold_start.stored(&Kept::Begun(epoch));
+                Ok(Outcome::Starts { is_first: true })
+            }
         }
     }
 
-    /// Has the store have what a life left behind that ended before its epoch was begun.
-    fn leave<E: CountedWrite>(
-        &self,
-        host: Host<R>,
-        left: Left,
-        err: &mut E,
-    ) -> Result<Entered<R, MachineStore<R>, Marker<R>>, Unserved> {
-        self.keep(host, Entry::Left(left), err)?;
-        Ok(Entered::Left)
-    }
-
-    /// Begins an epoch: its store has that before its replica says a word.
-    fn begin<E: CountedWrite>(
-        &self,
-        host: Host<R>,
-        mut life: Life<R>,
-        epoch: Epoch,
-        err: &mut E,
-    ) -> Result<Entered<R, MachineStore<R>, Marker<R>>, Unserved> {
-        self.keep(host, Entry::Begins(epoch), err)?;
-        let _ = life.keeper.cold_start.stored(&Kept::Begun(epoch));
-        self.go_on(host, life, true)
-    }
-
-    /// A machine that has begun its epoch, for the first time or not, whose replica is not started.
-    fn go_on(
+    /// The machine that has begun its epoch in this life, for the first time or not, and whose replica is not started.
+    fn begun(
         &self,
         host: Host<R>,
         life: Life<R>,
         is_first: bool,
-    ) -> Result<Entered<R, MachineStore<R>, Marker<R>>, Unserved> {
+    ) -> Result<Begun<R, MachineStore<R>, Marker<R>>, Unserved> {
+        let means = self.means(host, &life, is_first);
+        let (life, (epoch, files, stop)) = both(life, means)?;
+        Ok(life.begun(epoch, files, stop))
+    }
+
+    /// The epoch that the machine has begun in this life, the files of its replica, and what ends it.
+    fn means(
+        &self,
+        host: Host<R>,
+        life: &Life<R>,
+        is_first: bool,
+    ) -> Result<(Epoch, ReplicaFiles<MachineStore<R>, Marker<R>>, Stop), Unserved> {
         let number = life.origin.header.machine;
         let Some(epoch) = life.keeper.cold_start.speaks_in() else {
             return Err(Unserved::Failed(Failed::Store(number)));
         };
-        let files = self.files(host, number, &epoch, is_first)?;
         let stop = self.stop.another()?;
-        Ok(Entered::Begun(life.begun(epoch, files, stop)))
+        let files = self.files(host, number, &epoch, is_first)?;
+        Ok((epoch, files, stop))
     }
 
     /// The files of its replica of this number, which starts in this epoch for the first time, or not, as that was

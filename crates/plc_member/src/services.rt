@@ -1,5 +1,6 @@
 //! What is open at a machine beside its port: an operator's console and a page, where its group's file names them.
 
+use crate::both::both;
 use crate::links::console_of;
 use crate::serving::{MachineRuntime, millis};
 use crate::starting::Running;
@@ -15,6 +16,7 @@ use plc_status::{Journal, StatusReader, StatusWriter};
 use std::alloc::{AllocError, Global};
 use std::net::{Net, SocketAddr, TcpListener, TcpStream};
 use std::sync::Arc;
+use std::sync::atomic::AtomicBool;
 use std::time::Duration;
 use vr_model::ClientNumber;
 
@@ -27,27 +29,38 @@ struct ToServe {
     status: StatusReader,
 }
 
-/// What a page shows of a machine: what is published of it, and what is shown beside, if a page is wanted.
+/// What a page tells, and what is published of its machine.
 #[derive(Drop)]
 struct ToShow<J: Naming> {
     /// Where it's noted what becomes of the page.
     journal: Journal,
     status: StatusReader,
     released: ReleasedReader<J>,
-    showing: Option<Showing>,
 }
 
-/// What a console and a page of a machine are made of, beside what shows of the machine.
+/// What a console and a page of a machine are made of, beside what is published of the machine.
 #[derive(Drop)]
-pub(crate) struct Beside<J: Naming> {
+pub(crate) struct Beside {
     /// Where what an operator does at the console is noted.
     pub(crate) console: Journal,
     /// Where it's noted what becomes of the page.
     pub(crate) page: Journal,
-    /// The outputs, for the page.
-    pub(crate) released: ReleasedReader<J>,
     /// What the page shows beside what is published, if one is wanted.
     pub(crate) showing: Option<Showing>,
+}
+
+/// What a desk is told, and whose client it is.
+#[derive(Drop)]
+struct Told {
+    client: DeskClient,
+    others: Others,
+    has_changed: Arc<AtomicBool>,
+    has_no_majority: Arc<AtomicBool>,
+}
+
+/// Two readers of what shows of a machine.
+fn readers_of(status: &StatusWriter) -> Result<(StatusReader, StatusReader), AllocError> {
+    both(status.reader()?, status.reader())
 }
 
 /// What is not open yet.
@@ -121,6 +134,23 @@ fn desk_client(number: u8, starts: u64) -> Result<DeskClient, Failed> {
 }
 
 impl<R: MachineRuntime> Running<R> {
+    /// What its console's desk is told.
+    fn told(&self, group: &Group) -> Result<Told, Failed> {
+        let number = self.around.number();
+        let client = desk_client(number, self.around.origin.starts)?;
+        let others = Others {
+            board: Arc::try_clone(&self.boards.snapshots)?,
+            budget: group.budget,
+            replica: number,
+        };
+        Ok(Told {
+            client,
+            others,
+            has_changed: Arc::try_clone(&self.boards.has_changed)?,
+            has_no_majority: Arc::try_clone(&self.boards.signals.has_no_majority)?,
+        })
+    }
+
     /// What submits the commands of its console, by this link. They are noted in this journal.
     fn desk(
         &self,
@@ -129,15 +159,13 @@ impl<R: MachineRuntime> Running<R> {
         link: PeerLink<R>,
         journal: Journal,
     ) -> Result<Desk<R, PeerLink<R>>, Failed> {
-        let number = self.around.number();
-        let client = desk_client(number, self.around.origin.starts)?;
-        let others = Others {
-            board: Arc::try_clone(&self.boards.snapshots)?,
-            budget: group.budget,
-            replica: number,
-        };
-        let has_changed = Arc::try_clone(&self.boards.has_changed)?;
-        let has_no_majority = Arc::try_clone(&self.boards.signals.has_no_majority)?;
+        let ((link, journal), told) = both((link, journal), self.told(group))?;
+        let Told {
+            client,
+            others,
+            has_changed,
+            has_no_majority,
+        } = told;
         let period = millis(group.period);
         let desk = Desk::new(host, group.config, client, link, period, journal);
         let desk = desk.among(others).telling_changes(has_changed);
@@ -153,11 +181,13 @@ impl<R: MachineRuntime> Running<R> {
         link: PeerLink<R>,
         beside: ToServe,
     ) -> Result<Console<R, PeerLink<R>>, Failed> {
+        let key = key_of(host.alloc, group);
+        let ((door, link, beside), key) = both((door, link, beside), key)?;
         let ToServe { journal, status } = beside;
-        let key = key_of(host.alloc, group)?;
-        let desk = self.desk(host, group, link, journal)?;
         let idle = Duration::from_secs(u64::from(group.times.idle));
         let entrance = Entrance { door, idle, key };
+        let desk = self.desk(host, group, link, journal);
+        let ((entrance, status), desk) = both((entrance, status), desk)?;
         Console::new(host, entrance, desk, &self.around.origin.image, status)
     }
 
@@ -169,71 +199,95 @@ impl<R: MachineRuntime> Running<R> {
         beside: ToServe,
     ) -> Result<Option<Console<R, PeerLink<R>>>, Failed> {
         let Some(link) = self.around.console.take() else {
+            drop(beside);
             return Ok(None);
         };
-        let Some(door) = console_door(host, group, self.around.number())? else {
+        let door = console_door(host, group, self.around.number());
+        let ((link, beside), door) = both((link, beside), door)?;
+        let Some(door) = door else {
+            drop((link, beside));
             return Ok(None);
         };
         Ok(Some(self.console_behind(host, group, door, link, beside)?))
     }
 
-    /// The page that shows the machine, if it has one, which nobody is shown yet.
+    /// The page that shows the machine, if it has one, which nobody is shown yet. It shows this beside what is
+    /// published, if one is wanted.
     fn page<J: Naming + Send + Sync + 'static>(
         &self,
         host: Host<R>,
         group: &Group,
         shown: ToShow<J>,
+        showing: Option<Showing>,
     ) -> Result<Option<Page<R, J>>, Failed> {
+        let number = self.around.number();
+        let (Some(address), Some(showing)) = (status_of(group, number), showing) else {
+            drop(shown);
+            return Ok(None);
+        };
+        let has_changed = Arc::try_clone(&self.boards.has_changed);
+        let ((shown, showing), has_changed) = both((shown, showing), has_changed)?;
         let ToShow {
             journal,
             status,
             released,
-            showing,
         } = shown;
-        let number = self.around.number();
-        let (Some(address), Some(showing)) = (status_of(group, number), showing) else {
-            return Ok(None);
-        };
         let published = Published {
             whose: Whose::Machine(number),
             period: group.period,
             status,
             released,
             begun: self.around.keeper.begun,
-            has_changed: Arc::try_clone(&self.boards.has_changed)?,
+            has_changed,
             journal,
         };
         let image = &self.around.origin.image;
         Ok(Some(Page::new(host, address, image, showing, published)?))
     }
 
-    /// What the machine has beside its port, which isn't open yet. What shows of it is read of `status`.
+    /// What the machine has beside its port, which isn't open yet. What shows of it is read of `status`, its outputs of
+    /// `released`.
     pub(crate) fn services<J: Naming + Send + Sync + 'static>(
         &mut self,
         host: Host<R>,
         group: &Group,
         status: &StatusWriter,
-        beside: Beside<J>,
+        released: ReleasedReader<J>,
+        beside: Beside,
     ) -> Result<Services<R, J>, Failed> {
+        let readers = readers_of(status);
+        let ((released, beside), (status, shown)) = both((released, beside), readers)?;
         let Beside {
             console,
             page,
-            released,
             showing,
         } = beside;
         let to_serve = ToServe {
             journal: console,
-            status: status.reader()?,
+            status,
         };
-        let console = self.console(host, group, to_serve)?;
-        let shown = ToShow {
+        let to_show = ToShow {
             journal: page,
-            status: status.reader()?,
+            status: shown,
             released,
-            showing,
         };
-        let page = self.page(host, group, shown)?;
+        let console = self.console(host, group, to_serve);
+        let ((to_show, showing), console) = both((to_show, showing), console)?;
+        let (console, page) = both(console, self.page(host, group, to_show, showing))?;
         Ok(Services { console, page })
+    }
+}
+
+/// Takes connections at a console, if there is one.
+fn opened_console<R>(
+    console: Option<Console<R, PeerLink<R>>>,
+) -> Result<Option<OpenConsole<R, PeerLink<R>>>, Failed>
+where
+    R: MachineRuntime,
+{
+    match console {
+        Some(console) => Ok(Some(console.open()?)),
+        None => Ok(None),
     }
 }
 
@@ -268,10 +322,7 @@ where
     /// page can't be shown.
     pub(crate) fn open(self) -> Result<OpenServices<R, J>, Failed> {
         let Services { console, page } = self;
-        let console = match console {
-            Some(console) => Some(console.open()?),
-            None => None,
-        };
+        let (page, console) = both(page, opened_console(console))?;
         match opened_page(page) {
             Ok(page) => Ok(OpenServices { console, page }),
             Err(failed) => {

@@ -3,6 +3,7 @@
 ghost use Rattle.std.specs.Prelude.{◌≡◌};
 
 use crate::begun::{Begun, Surroundings};
+use crate::both::both;
 use crate::drive::{Drive, Parting};
 use crate::ended::{Ended, Left};
 use crate::keeper::Keeper;
@@ -79,6 +80,14 @@ where
     Seats::new(host, shown, idle, status.traffic()?)
 }
 
+/// The last of these readers, and the others.
+fn last_of<T: Drop>(mut readers: Vec<T>) -> Result<(T, Vec<T>), Failed> {
+    match readers.pop() {
+        Some(reader) => Ok((reader, readers)),
+        None => Err(Failed::Memory),
+    }
+}
+
 /// What the outputs of a machine are released to.
 fn outputs_of<J, R>(
     host: Host<R>,
@@ -92,19 +101,34 @@ where
     requires { list ≡ J.book }
 {
     let Host { rt, alloc } = host;
-    let Ok((writer, mut readers)) = released::<J, R>(list, alloc, rt, SESSIONS + 1) else {
-        return Err(Failed::Memory);
-    };
-    let Some(reader) = readers.pop() else {
-        return Err(Failed::Memory);
-    };
     let stamp = Arc::new(alloc, Stamp::new(rt)?)?;
-    let seats = seats_of(host, group, readers, &stamp, status)?;
+    let Ok((writer, readers)) = released::<J, R>(list, alloc, rt, SESSIONS + 1) else {
+        return Err(Failed::Memory);
+    };
+    let (writer, (reader, readers)) = both(writer, last_of(readers))?;
+    let seats = seats_of(host, group, readers, &stamp, status);
+    let ((writer, reader), seats) = both((writer, reader), seats)?;
     Ok(Outputs {
         publisher: Publisher { writer, stamp },
         seats,
         reader,
     })
+}
+
+/// What a machine shows, and what its outputs are released to.
+fn shown_by<J, R>(
+    host: Host<R>,
+    list: NewList,
+    group: &Group,
+) -> Result<(StatusWriter, Outputs<R, J, SharedPen<J, R>>), Failed>
+where
+    J: Naming + Send + Sync + 'static,
+    R: MachineRuntime,
+    requires { list ≡ J.book }
+{
+    let status = StatusWriter::new(host.alloc)?;
+    let outputs = outputs_of::<J, R>(host, list, group, &status);
+    both(status, outputs)
 }
 
 /// The driver of a machine that was started so often, which stands by.
@@ -167,48 +191,60 @@ where
         J: Naming + Send + Sync + 'static,
         requires { list ≡ J.book }
     {
+        let ((begun, showing), journals) = both((self, showing), Journals::new(host.alloc))?;
         let Journals {
             driver: journal,
             console,
             page,
-            mut printer,
-        } = Journals::new(host.alloc)?;
-        let (served, released) = self.served::<J>(host, list, group, journal)?;
+            printer,
+        } = journals;
         let beside = Beside {
             console,
             page,
-            released,
             showing,
         };
-        served.run(host, group, beside, &mut printer, err)
+        let served = begun.served::<J>(host, list, group, journal);
+        let ((beside, mut printer), served) = both((beside, printer), served)?;
+        let ended = served.run(host, group, beside, &mut printer, err);
+        drop(printer);
+        ended
     }
 
-    /// It, once its replica runs; beside it what a page is shown the outputs by. What changes is noted in this journal.
+    /// It, once its replica runs. What changes is noted in this journal.
     fn served<J>(
         self,
         host: Host<R>,
         list: NewList,
         group: &Group,
         mut journal: Journal,
-    ) -> Result<(Served<R, J, SharedPen<J, R>>, ReleasedReader<J>), Failed>
+    ) -> Result<Served<R, J, SharedPen<J, R>>, Failed>
     where
         J: Naming + Send + Sync + 'static,
         requires { list ≡ J.book }
     {
         self.note_change(&mut journal);
-        let status = StatusWriter::new(host.alloc)?;
+        let shown = shown_by::<J, R>(host, list, group);
+        let ((begun, journal), (status, outputs)) = both((self, journal), shown)?;
         let Outputs {
             publisher,
             seats,
             reader,
-        } = outputs_of::<J, R>(host, list, group, &status)?;
+        } = outputs;
+        let parts = (publisher, journal, status);
+        let running = started(host, group, begun);
+        let ((parts, seats, released), running) = both((parts, seats, reader), running)?;
+        let (publisher, journal, status) = parts;
         let parts = Parts {
-            running: started(host, group, self)?,
+            running,
             publisher,
             journal,
             status,
         };
-        Ok((Served { parts, seats }, reader))
+        Ok(Served {
+            parts,
+            seats,
+            released,
+        })
     }
 }
 
@@ -335,24 +371,48 @@ impl<R: MachineRuntime, J: Naming, P: Pen<J> + Drop> Parts<R, J, P> {
 struct Served<R: MachineRuntime, J: Naming, P: Pen<J> + Drop> {
     parts: Parts<R, J, P>,
     seats: Seats<R, J>,
+    /// The outputs, for a page.
+    released: ReleasedReader<J>,
 }
 
-impl<R: MachineRuntime, J: Naming, P: Pen<J> + Drop> Served<R, J, P> {
-    /// The work of its driver, and the thread of its replica.
-    fn into_work(
-        self,
-        host: Host<R>,
-        group: &Group,
-    ) -> Result<(Work<R, J, P>, SoloThread), Failed> {
-        let Served { parts, seats } = self;
-        let around = &parts.running.around;
+/// What a machine's driver works with beside its parts.
+#[derive(Drop)]
+struct Means {
+    address: SocketAddr,
+    stage: Arc<Stage>,
+    driver: MachineDriver,
+}
+
+impl<R: MachineRuntime, J: Naming, P: Pen<J> + Drop> Parts<R, J, P> {
+    /// What its driver works with, where these seats are open.
+    fn means(&self, group: &Group, seats: &Seats<R, J>) -> Result<Means, Failed> {
+        let around = &self.running.around;
         let (number, starts) = (around.number(), around.origin.starts);
         let Some(place) = group.machines.get(usize::from(number)) else {
             return Err(Failed::Connection);
         };
-        let address = place.modbus;
         let stage = seats.shared_stage()?;
-        let driver = driver_of(group, number, starts)?;
+        Ok(Means {
+            address: place.modbus,
+            stage,
+            driver: driver_of(group, number, starts)?,
+        })
+    }
+
+    /// The work of its driver, and the thread of its replica. Clients take these seats.
+    fn into_work(
+        self,
+        host: Host<R>,
+        group: &Group,
+        seats: Seats<R, J>,
+    ) -> Result<(Work<R, J, P>, SoloThread), Failed> {
+        let means = self.means(group, &seats);
+        let ((parts, seats), means) = both((self, seats), means)?;
+        let Means {
+            address,
+            stage,
+            driver,
+        } = means;
         let (drive, thread) = parts.into_drive(host, millis(group.period), driver, stage);
         let work = Work {
             drive,
@@ -381,20 +441,29 @@ where
 {
     /// Serves it, with this beside its port, and prints what is noted meanwhile, until it ends.
     fn run<E: CountedWrite>(
-        mut self,
+        self,
         host: Host<R>,
         group: &Group,
-        beside: Beside<J>,
+        beside: Beside,
         printer: &mut Printer,
         err: &mut E,
     ) -> Result<Ended, Failed> {
-        let parts = &mut self.parts;
-        let services = parts.running.services(host, group, &parts.status, beside)?;
-        let (work, thread) = self.into_work(host, group)?;
-        let services = services.open()?;
+        let Served {
+            parts: mut own,
+            seats,
+            released,
+        } = self;
+        let parts = &mut own;
+        let services = parts
+            .running
+            .services(host, group, &parts.status, released, beside);
+        let ((parts, seats), services) = both((own, seats), services)?;
+        let (services, (work, thread)) = both(services, parts.into_work(host, group, seats))?;
+        let ((work, thread), services) = both((work, thread), services.open())?;
         let parting = work.done(host.rt, printer, err);
         services.close();
-        Ok(ended_by(&host.rt, parting?, thread))
+        let (thread, parting) = both(thread, parting)?;
+        Ok(ended_by(&host.rt, parting, thread))
     }
 }
 

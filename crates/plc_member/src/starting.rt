@@ -4,6 +4,7 @@ ghost use Rattle.std.specs.Prelude.{◌≡◌, IfOk};
 ghost use Rattle.plc_member.specs.Marking.{found_mark};
 
 use crate::begun::{Begun, ReplicaFiles, Surroundings};
+use crate::both::both;
 use crate::giving_up::GivingTimer;
 use crate::held_link::HeldLink;
 use crate::life::Origin;
@@ -83,10 +84,10 @@ impl Boards {
     ) -> Result<ScanGate<R, M>, AllocError>
         ensures { IfOk result (λ gate. gate.begun ≡ around.now.keeper.begun) }
     {
-        let marking = self.marking(host, around, marks)?;
-        let program = ProgramWatch::new(host.alloc, &around.origin.image, marking)?;
         let scans = Arc::try_clone(&self.scans)?;
         let snapshots = Arc::try_clone(&self.snapshots)?;
+        let marking = self.marking(host, around, marks)?;
+        let program = ProgramWatch::new(host.alloc, &around.origin.image, marking)?;
         Ok(ScanGate::new(host, around.keeper.begun, scans, snapshots, program))
     }
 }
@@ -154,12 +155,21 @@ where
     S: Starts + Drop,
     M: Marks + Drop,
 {
-    let ReplicaFiles { store, marks, .. } = files;
-    let hold = Arc::try_clone(&around.keeper.terms.hold)?;
-    let timer = timer_of(host.rt, group, around, &boards.signals)?;
-    let gate = boards.gate(host, around, marks)?;
+    let hold = Arc::try_clone(&around.keeper.terms.hold);
+    let ((link, files), hold) = both((link, files), hold)?;
+    let link = HeldLink { link, hold };
+    let timer = timer_of(host.rt, group, around, &boards.signals);
+    let ((link, files), timer) = both((link, files), timer)?;
+    let ReplicaFiles {
+        store,
+        marks,
+        saves,
+    } = files;
+    drop(saves);
+    let gate = boards.gate(host, around, marks);
+    let ((link, store, timer), gate) = both((link, store, timer), gate)?;
     Ok(Seat {
-        link: HeldLink { link, hold },
+        link,
         store,
         timer,
         gate,
@@ -197,14 +207,17 @@ where
     S: Starts + Send + Drop + 'static,
     M: Marks + Send + Drop + 'static,
 {
+    let boards = Boards::new(host.alloc, &begun.files.saves);
+    let (begun, boards) = both(begun, boards)?;
     let Begun {
         around,
         link,
         files,
     } = begun;
-    let boards = Boards::new(host.alloc, &files.saves)?;
-    let seat = seat_of(host, group, &around, &boards, link, files)?;
-    let (solo, thread) = solo_of(host, group, &around.origin, seat)?;
+    let seat = seat_of(host, group, &around, &boards, link, files);
+    let ((around, boards), seat) = both((around, boards), seat)?;
+    let solo = solo_of(host, group, &around.origin, seat);
+    let ((around, boards), (solo, thread)) = both((around, boards), solo)?;
     Ok(Running {
         around,
         boards,
