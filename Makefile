@@ -12,7 +12,7 @@
 # make simulate [WORDS="f=2 1..20"] [JOBS=2]    proves the simulator and runs groups of machines by virtual time from these seeds: build/sim_group (crates/sim_group/src/main.rt has its words)
 # make install [PREFIX=/usr/local] [DESTDIR=]  puts the proved program, its man page, the documents, number-lines, the examples and systemd units there
 # make uninstall [PREFIX=..] [DESTDIR=..]       takes away what install puts there
-# make test                                   the whole gate: that the rows of the examples are those of examples/, the table of crates is that of crates.txt, AUDIT names what is there and the pictures are those of examples/, and then rt ci
+# make test                                   the whole gate: that the rows of the examples are those of examples/, the table of crates is that of crates.txt, AUDIT names what is there and the pictures are those of examples/, then rt ci, and then what the program does that it has built
 
 EXAMPLE ?= crossing
 IL = examples/$(EXAMPLE).il
@@ -146,3 +146,4 @@ test:
 	tools/sequence --check
 	-@tools/gate-times --difference
 	rt ci
+	tools/try-built

@@ -405,12 +405,12 @@ DOUBLES = '%D'  # stands for the double words among the names of a text
 
 
 def is_known(name, names):
-    """A location, or a declared name with or without a field; `names` None takes any."""
+    """A location, or a declared name, itself or with a field behind its last dot; `names` None takes any."""
     if not isinstance(name, str) or names is None:
         return isinstance(name, str)
     if name.startswith('%'):
         return name[2:3].upper() != 'D' or DOUBLES in names
-    return name.split('.')[0].upper() in names
+    return name.upper() in names or name.upper().rpartition('.')[0] in names
 
 
 def is_hex(it):

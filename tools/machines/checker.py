@@ -122,7 +122,8 @@ def changing(before, after, missed, is_quiet):
     """The bits and texts that they may have had: those of the one until some scan, and then of the other; or any, if an
     operator was at work."""
     if not is_quiet:
-        every = [(before.bits & ~TOLD | told, text) for told in (0, TOLD) for text in TEXTS]
+        either = {before.bits & ~TOLD, after.bits & ~TOLD}
+        every = [(bits | told, text) for bits in sorted(either) for told in (0, TOLD) for text in TEXTS]
         return len(every) ** missed, itertools.product(every, repeat=missed)
     places = itertools.product(*(range(missed + 1) if one != other else (0,)
                                  for one, other in ((before.bits, after.bits), (before.text, after.text))))
@@ -267,17 +268,40 @@ def two_show(history):
     return None
 
 
+def shows_the_scan_of_another(history):
+    """A scan that two machines show: one submitted it, and no other one releases it."""
+    first = {}
+    for read in history.in_time():
+        before = first.setdefault(read.outputs.count, read)
+        if before.machine != read.machine:
+            return f'machine {read.machine} shows {read.outputs} at {read.ended:.3f}, and machine {before.machine} did'
+    return None
+
+
+def ahead_of_time(reads, time_of, slack):
+    """The first of these reads whose scan is ahead of the time, and the one that it's ahead of: by more than this, in
+    seconds, if the one came as late, and the other was as early, as their reads may have been."""
+    lowest, since = None, None
+    for read in reads:
+        if lowest is not None and time_of(read) - read.ended > lowest + slack:
+            return f'scan {read.outputs.count} at {read.ended:.3f}, and {since.outputs.count} at {since.begun:.3f}'
+        if lowest is None or time_of(read) - read.begun < lowest:
+            lowest, since = time_of(read) - read.begun, read
+    return None
+
+
 def has_too_many(history):
     """More scans than there was time for, over any time: each is due a period after the one before it, or later."""
-    lowest, since = None, None
-    slack = 2.5 + history.fresh / history.period
-    for read in history.by_count():
-        ahead = read.outputs.count - read.ended / history.period
-        if lowest is not None and ahead - lowest > slack:
-            return f'scan {read.outputs.count} at {read.ended:.3f}, and {since.outputs.count} at {since.ended:.3f}'
-        if lowest is None or ahead < lowest:
-            lowest, since = ahead, read
-    return None
+    slack = 2.5 * history.period + history.fresh
+    return ahead_of_time(history.by_count(), lambda it: it.outputs.count * history.period, slack)
+
+
+def moments_run_ahead(history):
+    """A scan that was released with a later moment than there was time for since another one, which was submitted by as
+    long before its read as outputs are shown, at most."""
+    moments = {it.outputs().count: it.moment for it in history.releases if it.moment is not None}
+    reads = [it for it in history.by_count() if it.outputs.count in moments]
+    return ahead_of_time(reads, lambda it: moments[it.outputs.count] / 1000, history.fresh + 0.05)
 
 
 def calm_runs(history):
@@ -425,8 +449,11 @@ def releases_without_an_input(history):
 RELEASES = [has_two_releases, has_two_lists, releases_out_of_order, leaves_a_release_out,
             releases_differ_from_the_table]
 CHECKS = [goes_back, has_two_answers, differs_from_the_table, inputs_go_back, loses_an_input, loses_a_command, two_show,
-          has_too_many, leaves_one_out, does_one_twice, *RELEASES, shows_what_it_did_not_release,
-          releases_without_an_input]
+          shows_the_scan_of_another, has_too_many, moments_run_ahead, leaves_one_out, does_one_twice, *RELEASES,
+          shows_what_it_did_not_release, releases_without_an_input]
+# Those that find nothing in a good history, for however long its machines and clients had to wait for a processor.
+PATIENT = [goes_back, has_two_answers, differs_from_the_table, inputs_go_back, shows_the_scan_of_another, has_too_many,
+           moments_run_ahead, has_two_releases, has_two_lists, releases_out_of_order, releases_differ_from_the_table]
 
 
 def faults_of(history, checks=tuple(CHECKS)):

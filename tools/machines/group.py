@@ -8,6 +8,7 @@ import subprocess
 import tempfile
 import threading
 import time
+from typing import NamedTuple
 
 import checker
 import disk
@@ -17,9 +18,17 @@ from checker import History, Read, Write
 from modbus import Modbus
 from program import GREATEST, source
 
-LIMIT = 0.4             # seconds that a client waits for anything
-PIECE = 0.004           # seconds from read to read
-WRITES = 0.03           # and from write to write
+
+class Pace(NamedTuple):
+    """Times of those that use a group, in seconds."""
+    limit: float        # that a client waits for anything
+    piece: float        # from read to read
+    wait: float         # until what has to come is given up
+
+
+QUICK = Pace(0.4, 0.004, 30)
+PATIENT = Pace(20, 0.02, 90)
+WRITES = 0.03           # seconds from write to write
 WRITTEN = 0.5           # seconds until what was read is in a trace
 ENDS = signal.SIGKILL, signal.SIGTERM
 
@@ -57,7 +66,11 @@ class Machine:
     def kill(self, what=signal.SIGKILL):
         """Ends it: its status."""
         self.send(what)
-        status = self.process.wait(10)
+        return self.ended(10)
+
+    def ended(self, seconds):
+        """The status of one that ends by itself, in time, and all of whose lines were read."""
+        status = self.process.wait(seconds)
         self.reader.join(10)
         return status
 
@@ -101,12 +114,13 @@ class Group:
     """The machines of a group, what they are made of, and what clients read and wrote."""
 
     def __init__(self, options, size=None, over=None, has_disks=False, folder=None, has_traces=True, has_pages=False,
-                 **keys):
+                 pace=QUICK, **keys):
         self.plc, self.period, self.size = options.plc, options.period / 1000, size or options.machines
-        self.fresh, self.work = self.period + 0.04, tempfile.mkdtemp(prefix='machines-', dir=folder)
+        self.pace, self.work = pace, tempfile.mkdtemp(prefix='machines-', dir=folder)
+        self.fresh = keys.get('fresh', options.period + 40) / 1000
         self.disks, self.network, self.has_traces, self.has_pages = [], None, has_traces, has_pages
         self.reads, self.writes, self.commands, self.faults, self.holds = [], [], [], [], []
-        self.is_over, self.threads, self.sessions = False, [], itertools.count()
+        self.is_over, self.threads, self.sessions, self.begun = False, [], itertools.count(), now()
         try:
             keys = {'name': '"tried"', 'identity': f'"{os.urandom(16).hex()}"', 'period': options.period, **keys}
             self.keys = keys
@@ -189,14 +203,18 @@ class Group:
         return dict(line.rsplit(' ', 1) for line in call.stdout.splitlines())
 
     def begin(self):
-        """Starts each machine, and a client at each port that reads on and on. Whether all are well within half a
-        minute."""
+        """Starts each machine, and a client at each port that reads on and on: whether all come to be well."""
         begun = now()
         for machine in self.machines:
             machine.start()
+        return self.is_watched(begun)
+
+    def is_watched(self, begun):
+        """Starts a client at each port that reads on and on: whether all machines, which were started since then, come
+        to be well."""
         for machine in range(self.size):
             self.go_on(self.poll, machine)
-        is_well = self.are_well(30)
+        is_well = self.are_well(self.pace.wait)
         if not is_well:
             print('  not well:', *self.since(begun), sep='\n    ')
         return is_well
@@ -207,7 +225,7 @@ class Group:
         self.threads[-1].start()
 
     def client(self, machine):
-        return Modbus(self.network.connect(machine, LIMIT))
+        return Modbus(self.network.connect(machine, self.pace.limit))
 
     def read(self, client, machine, session):
         begun = now()
@@ -223,7 +241,7 @@ class Group:
                     session = next(self.sessions)
                     while not self.is_over:
                         self.read(client, machine, session)
-                        time.sleep(PIECE)
+                        time.sleep(self.pace.piece)
             except OSError:
                 time.sleep(self.network.pause)
 
@@ -243,7 +261,7 @@ class Group:
                         self.read(client, machine, session)
                         time.sleep(WRITES)
             except OSError:
-                time.sleep(PIECE)
+                time.sleep(self.pace.piece)
 
     def driving(self, seconds):
         """The machine whose port answers, within so long."""
@@ -261,8 +279,8 @@ class Group:
 
     def write(self, *writes):
         """Has the machine that drives take these inputs: places with their values, bits where those are truth values.
-        Whether it does so within ten seconds."""
-        end = now() + 10
+        Whether it does so in time."""
+        end = now() + self.pace.wait
         while now() < end:
             try:
                 with self.client(self.driving(10)) as client:
@@ -271,6 +289,16 @@ class Group:
                     return True
             except (OSError, TypeError):
                 time.sleep(0.01)
+        return False
+
+    def comes(self, wanted, seconds=None):
+        """Whether a read that begins from now on shows what is wanted, in time."""
+        begun = now()
+        end = begun + (seconds or self.pace.wait)
+        while now() < end:
+            if any(wanted(it.outputs) for it in self.reads[-50:] if it.begun > begun):
+                return True
+            time.sleep(0.01)
         return False
 
     def are_well(self, seconds):

@@ -203,6 +203,12 @@ def two_that_show_at_a_time():
     return 'two show', made._replace(reads=reads_of_both)
 
 
+def a_last_scan_that_the_next_machine_shows():
+    """Once more, before its first one."""
+    made, last = history(), scans()[TAKEOVER - 2].outputs
+    return 'shows the scan of another', made._replace(reads=made.reads + [Read(opens() - 0.01, opens(), 1, last, 1)])
+
+
 def an_input_that_is_lost():
     """It was acknowledged, and isn't in the scans of the next half second."""
     def word_at(at):
@@ -305,6 +311,14 @@ def a_moment_that_goes_back():
     return 'has two lists', with_releases(change)
 
 
+def moments_of_two_beginnings():
+    """The next machine's are half a second ahead."""
+    def change(found):
+        return [it._replace(moment=it.moment + 500) if it.machine == 1 else it for it in found]
+
+    return 'moments run ahead', with_releases(change)
+
+
 def two_releases_in_turn():
     """A machine releases what it submitted later before what it submitted first."""
     def change(found):
@@ -320,12 +334,12 @@ def an_input_that_is_lost_in_a_release():
 
 WRONG = [one_output_changed, one_scan_changed, another_mark_from_there_on, a_release_left_out,
          a_scan_left_out_of_the_table, one_scan_twice, one_scan_twice_in_the_mark, one_release_twice,
-         two_histories, a_read_that_goes_back,
-         two_that_show_at_a_time, an_input_that_is_lost, an_input_that_goes_back, empty_inputs, a_command_that_is_lost,
-         scans_in_a_hurry, one_output_changed_in_a_trace, one_output_changed_that_nobody_read,
-         a_release_left_out_of_a_trace, a_release_left_out_soon_before_an_end, a_scan_that_nobody_asked_for,
-         one_place_released_twice, one_place_with_two_outputs, two_lists, a_moment_that_goes_back, two_releases_in_turn,
-         an_input_that_is_lost_in_a_release]
+         two_histories, a_read_that_goes_back, two_that_show_at_a_time, a_last_scan_that_the_next_machine_shows,
+         an_input_that_is_lost, an_input_that_goes_back, empty_inputs, a_command_that_is_lost, scans_in_a_hurry,
+         one_output_changed_in_a_trace, one_output_changed_that_nobody_read, a_release_left_out_of_a_trace,
+         a_release_left_out_soon_before_an_end, a_scan_that_nobody_asked_for, one_place_released_twice,
+         one_place_with_two_outputs, two_lists, a_moment_that_goes_back, moments_of_two_beginnings,
+         two_releases_in_turn, an_input_that_is_lost_in_a_release]
 
 
 def tried():

@@ -9,7 +9,7 @@ import sys
 from modbus import connection
 
 HERE = os.path.dirname(os.path.abspath(__file__))
-REPLICA, MODBUS, CONSOLE, PAGE = 7600, 7650, 7680, 7690     # where a machine has an address of its own
+REPLICA, MODBUS, CONSOLE, PAGE, PIPES = 7600, 7650, 7680, 7690, 7700    # where machines have addresses of their own
 TAGS = 250              # so many runs of the tool may be under way at once
 
 
@@ -48,13 +48,16 @@ class Carrier:
 
 
 class Loopback:
-    """All machines at 127.0.0.1, each with ports of its own. Nothing of their network can be made to fail."""
+    """All machines at an address of this computer that no other run of this tool has meanwhile: two bytes of it are a
+    port that is taken. Their ports are below those that a connection gets by itself, so one that is closed is free.
+    Nothing of their network can be made to fail."""
 
     name = 'loopback'
     pause = 0.004       # seconds from one try of a client to connect to the next
 
     def __init__(self, size):
-        self.size, self.ports = size, free_ports(4 * size)
+        self.size, self.taken = size, socket.create_server(('127.0.0.1', 0))
+        self.address = '127.{}.{}.1'.format(*divmod(self.taken.getsockname()[1], 256))
 
     def ahead(self, _machine):
         """The words ahead of a call of the program."""
@@ -62,23 +65,23 @@ class Loopback:
 
     def replica(self, machine, _reader):
         """Where a machine's replica is, as another one's file tells it."""
-        return told('127.0.0.1', self.ports[machine])
+        return told(self.address, REPLICA + machine)
 
     def modbus(self, machine):
-        return '127.0.0.1', self.ports[self.size + machine]
+        return self.address, MODBUS + machine
 
     def console(self, machine):
-        return '127.0.0.1', self.ports[2 * self.size + machine]
+        return self.address, CONSOLE + machine
 
     def page(self, machine):
-        return '127.0.0.1', self.ports[3 * self.size + machine]
+        return self.address, PAGE + machine
 
     def connect(self, machine, limit):
         """A client's connection with a machine."""
         return connection(self.modbus(machine), limit)
 
     def close(self):
-        pass
+        self.taken.close()
 
 
 class Failing:
@@ -116,16 +119,21 @@ class Pipes(Failing, Loopback):
 
     def __init__(self, size):
         Loopback.__init__(self, size)
-        ways = [(one, other) for one in range(size) for other in range(size) if one != other]
-        self.pipe = dict(zip(ways, free_ports(len(ways))))
-        words = [f'{one},{other},{port},{self.ports[other]}' for (one, other), port in self.pipe.items()]
-        self.begin(Carrier('pipes.py', words))
+        words = [f'{one},{other},{self.pipe(one, other)},{REPLICA + other}' for one in range(size)
+                 for other in range(size) if one != other]
+        self.begin(Carrier('pipes.py', [self.address, *words]))
+
+    @staticmethod
+    def pipe(one, other):
+        """The port of the pipe from one machine to another one."""
+        return PIPES + 10 * one + other
 
     def replica(self, machine, reader):
-        return told('127.0.0.1', self.pipe.get((reader, machine), self.ports[machine]))
+        return told(self.address, REPLICA + machine if reader == machine else self.pipe(reader, machine))
 
     def close(self):
         self.carrier.close()
+        Loopback.close(self)
 
 
 def run(line):

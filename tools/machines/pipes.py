@@ -1,6 +1,6 @@
 #!/usr/bin/env python3
-"""pipes.py FROM,INTO,PORT,TO ..: a process that carries connections between the machines of one computer, those that
-machine FROM makes to machine INTO from PORT of 127.0.0.1 to port TO, and makes the faults of a network. Lines on
+"""pipes.py ADDRESS FROM,INTO,PORT,TO ..: a process that carries connections between the machines of one computer, those
+that machine FROM makes to machine INTO from PORT of the address to port TO, and makes the faults of a network. Lines on
 standard input say which, as {"cut": [[0, 1]], "delay": 5, "jitter": 2}, in machines and milliseconds: that is all that
 holds from then on, and `done` answers it. It ends with its input.
 
@@ -69,12 +69,12 @@ async def give(network, way, reader, writer):
         taking.cancel()
 
 
-async def carry(network, way, target, reader, writer):
+async def carry(network, way, address, target, reader, writer):
     """A connection, both ways, once there is one with the other machine."""
     far_writer = None
     try:
         await network.wait(way, network.due())
-        far_reader, far_writer = await asyncio.open_connection('127.0.0.1', target)
+        far_reader, far_writer = await asyncio.open_connection(address, target)
         both = [asyncio.create_task(it) for it in (give(network, way, reader, far_writer),
                                                    give(network, way[::-1], far_reader, writer))]
         await asyncio.wait(both, return_when=asyncio.FIRST_COMPLETED)
@@ -88,15 +88,15 @@ async def carry(network, way, target, reader, writer):
                 it.close()
 
 
-async def main(words):
+async def main(address, *words):
     network = Network()
     for word in words:
         one, other, port, target = map(int, word.split(','))
 
         async def serve(reader, writer, way=(one, other), target=target):
-            await carry(network, way, target, reader, writer)
+            await carry(network, way, address, target, reader, writer)
 
-        await asyncio.start_server(serve, '127.0.0.1', port)
+        await asyncio.start_server(serve, address, port)
     print('done', flush=True)
     while line := await asyncio.to_thread(sys.stdin.readline):
         network.change(json.loads(line))
@@ -105,6 +105,6 @@ async def main(words):
 
 if __name__ == '__main__':
     try:
-        asyncio.run(main(sys.argv[1:]))
+        asyncio.run(main(*sys.argv[1:]))
     except KeyboardInterrupt:
         pass

@@ -194,6 +194,8 @@ fn type_name(ty: Ty) -> &'static str {
         Ty::Time => "TIME",
         Ty::Lint => "LINT",
         Ty::Real => "REAL",
+        Ty::Word => "WORD",
+        Ty::Dword => "DWORD",
     }
 }
 

@@ -12,7 +12,6 @@ mod epochs;
 mod field_pages;
 mod fields;
 mod frames;
-mod group_files;
 mod groups;
 mod hellos;
 mod machine_stores;

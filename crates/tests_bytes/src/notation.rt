@@ -148,7 +148,7 @@ fn put_cell(cells: &mut Cells, word: &str) -> Option<()> {
     let (place, number) = word.split_once('=').unwrap_or((word, "1"));
     match il_model::extended_location_from(place.as_bytes())? {
         Loc::Bit(_, bit) => put_at(&mut cells.bits, bit, true),
-        Loc::Word(_, place) => put_word_at(cells, place, number),
+        Loc::Word(_, place) | Loc::Pattern(_, place) => put_word_at(cells, place, number),
         Loc::Double(_, place, _) => put_double_at(cells, place, number),
     }
 }

@@ -4,7 +4,7 @@
 use crate::notation::{bytes_of, front, lines_of, plain, spread, told, told_bytes, unreadable};
 use crate::sessions::Exchange;
 use crate::{
-    blocks, controllers, drivers, epochs, field_pages, fields, frames, group_files, groups, hellos,
+    blocks, controllers, drivers, epochs, field_pages, fields, frames, groups, hellos,
     machine_stores, pages, replicas,
 };
 use std::alloc::{AllocError, Global};
@@ -63,7 +63,7 @@ impl<'a> Given<'a> {
     /// Takes what a section hands in; false where it hands in nothing.
     fn take(&mut self, title: &str, body: &'a str) -> io::Result<bool> {
         match title {
-            "message" | "file" | "shown" => self.message = body,
+            "message" | "shown" => self.message = body,
             "field" => self.field = body,
             _ => return self.exchange.take(title, body.trim_end()),
         }
@@ -202,7 +202,6 @@ fn comes_out<R: Wait>(
 ) -> io::Result<String> {
     match given.file {
         "modbus.rows" => given.exchange.table(rt, alloc, title, cell, said),
-        "group.rows" => group_files::table(alloc, given.message, title, cell),
         "fields.rows" => fields::table(alloc, title, cell, given.field),
         file => comes_out_of_cell(alloc, file, title, cell),
     }

@@ -3,6 +3,7 @@
 use crate::notation::{
     behind, bytes_of, cut, number_of, otherwise, put_made, told, told_bytes, unreadable,
 };
+use arrayvec::ArrayVec;
 use modbus_wire::{Bits, Pdu, Reply, Request, Table, Words};
 use std::alloc::Global;
 use std::io;
@@ -14,11 +15,11 @@ fn number(text: &str, name: &str) -> Option<u16> {
 
 /// `bits=101`: the lowest first.
 fn bits(text: &str) -> Option<Bits> {
-    let mut bits = Bits::new();
+    let mut bits: ArrayVec<bool, 2000> = ArrayVec::new();
     for digit in behind(text, "bits=")?.chars() {
         bits.try_push(digit == '1').ok()?;
     }
-    Some(bits)
+    Some(Bits::new(bits.as_slice()))
 }
 
 /// `words=10,-2`.
@@ -155,7 +156,7 @@ fn put_words(alloc: Global, words: &[i16]) -> io::Result<String> {
 /// What a reply answers.
 fn shown(alloc: Global, reply: &Reply) -> io::Result<String> {
     match reply {
-        Reply::Bits(bits) => put_bits(alloc, bits.as_slice()),
+        Reply::Bits(bits) => put_bits(alloc, bits.values().as_slice()),
         Reply::Words(words) => put_words(alloc, words.as_slice()),
         Reply::Done => told(alloc, "done"),
         Reply::Failed(number) => Ok(format!(in alloc; "exception {number}")?),

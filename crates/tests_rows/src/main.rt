@@ -1,6 +1,6 @@
 //! Reads files of rows, checks by the calls of the program that each row comes out as it says, and prints those that
-//! don't and how many rows each file has. `data/README.md` tells how a row is written. It uses `plc_tool` and
-//! `plc_symbols`, and no crate uses it.
+//! don't and how many rows each file has. `data/README.md` tells how a row is written. It uses `plc_tool`, `plc_symbols`
+//! and `plc_words`, and no crate uses it.
 #![tactic(auto)]
 
 mod calls;
@@ -8,6 +8,7 @@ mod changes;
 mod given;
 mod notation;
 mod rows;
+mod words;
 
 use std::{env, fs, io};
 

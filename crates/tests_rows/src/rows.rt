@@ -4,6 +4,7 @@ use crate::calls::{assembled, compared, listed, named, ran, reads_back, simulate
 use crate::changes;
 use crate::given::Given;
 use crate::notation::{bytes_of, lines_of};
+use crate::words::asked;
 use std::alloc::{AllocError, Global};
 use std::io;
 
@@ -89,12 +90,19 @@ fn check_line(alloc: Global, title: &str, line: &str) -> io::Result<bool> {
 fn comes_out(alloc: Global, given: &Given, title: &str, said: &str) -> io::Result<bool> {
     match title {
         "image" => is_assembled(alloc, given.text.as_slice(), said),
+        "words" => asks_for(alloc, given.text.as_slice(), said),
         "every other byte" => {
             let came = changes::what_comes(alloc, given.image.as_slice())?;
             Ok(came.as_str() == said.trim_end())
         }
         _ => Ok(prints(alloc, given, title, lines_of(alloc, said)?.as_bytes())),
     }
+}
+
+/// Whether the words of a call ask for this.
+fn asks_for(alloc: Global, text: &[u8], said: &str) -> io::Result<bool> {
+    let words = str::from_utf8(text).unwrap_or("");
+    Ok(asked(alloc, words)?.as_str() == said.trim_end())
 }
 
 /// Whether a text is assembled to these bytes.

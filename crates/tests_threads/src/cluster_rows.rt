@@ -1,20 +1,18 @@
 //! A group of three, each replica in a thread of its own.
-use crate::faulty::{Faulty, stores_in};
 use crate::shelf::{CLIENT, Shelf, WIRE, group_of_three};
 use il_loader::{Image, load};
 use il_model::{Answer, Command, InImage};
 use net_links::links;
 use std::alloc::{AllocError, Global};
 use std::process::Abort;
-use std::rt::Files;
 use std::sync::atomic::{AtomicBool, Ordering};
 use std::sync::{Arc, Wait};
 use std::test::Fail;
 use std::thread::Threads;
 use std::time::Duration;
-use std::{fs, thread, time};
+use std::{thread, time};
 use vr_model::{Body, ClientNumber, Message, Party, Request, Standing, Status};
-use vr_ports::{Gate, Input, Link, OpenGate, Relink, Timer};
+use vr_ports::{Gate, Input, Link, Relink, Timer};
 use vr_replica::Replica;
 use vr_shown::Shown;
 use vr_threads::{
@@ -196,7 +194,9 @@ fn answers(input: &Input, request: u64) -> bool {
 /// Whether an answer to this request comes now.
 fn hears_answer<L: Link>(link: &mut L, request: u64) -> bool {
     let input = link.recv();
-    answers(&input, request)
+    let is_answer = answers(&input, request);
+    drop(input);
+    is_answer
 }
 
 /// Whether its answer comes, however often it has to be asked for.
@@ -356,82 +356,6 @@ fn a_group_goes_on_while_its_primary_crashes(rt: HostRuntime) -> Result<(), Fail
     Ok(())
 }
 
-type HangingSeat<R> = Seat<ChannelLink<R>, Faulty<R>, MachineTimer<R>, OpenGate>;
-
-/// Replicas on the machine's time, with these stores.
-fn timed<R: Wait + Files + time::Clock + Alloc<A = Global> + Copy + Drop>(
-    rt: R,
-    links: Vec<ChannelLink<R>>,
-    stores: Vec<Faulty<R>>,
-) -> Result<Vec<HangingSeat<R>>, Fail> {
-    let (config, _) = group_of_three()?;
-    let (patience, pause) = (Duration::from_millis(500), Duration::from_millis(20));
-    let mut seats = Vec::new(rt.alloc());
-    for (link, store) in links.into_iter().zip(stores) {
-        seats.push(Seat {
-            link,
-            store,
-            timer: MachineTimer::new(rt, config, patience, pause),
-            gate: OpenGate,
-        })?;
-    }
-    Ok(seats)
-}
-
-/// Which of the things asked of a group went well whose last replica's disk hangs, and then goes on: the group answers
-/// meanwhile, an order to start that replica anew does nothing, it isn't up; then it comes up, and once it's cut, it
-/// ends and is idle.
-fn seen_of_a_hang<R, L>(
-    rt: &R,
-    cluster: &mut Cluster<L>,
-    link: &mut L,
-    goes: &AtomicBool,
-) -> [bool; 6]
-where
-    R: Threads + Wait + time::Clock + Copy + Send + Drop + 'static,
-    L: Relink + Send + Drop + 'static,
-{
-    let is_answered = is_answered(link, CLIENT, 1);
-    let is_ordered_once = cluster.is_starting(2) && !cluster.restart(rt, 2);
-    let is_down = !cluster.shown(2).is_normal() && !cluster.is_idle(2);
-    goes.store(true, Ordering::SeqCst);
-    let comes_up = comes_to(rt, cluster, 2, Sought::Normal);
-    cluster.cut();
-    let ends = comes_to(rt, cluster, 2, Sought::Ended);
-    let is_idle = cluster.is_idle(2);
-    [
-        is_answered,
-        is_ordered_once,
-        is_down,
-        comes_up,
-        ends,
-        is_idle,
-    ]
-}
-
-/// A replica whose disk hangs holds up nobody: the others are served, an order to start it anew waits for nothing, and
-/// it comes up once the disk goes on.
-#[test]
-fn a_disk_that_hangs_holds_up_its_replica_alone(rt: HostRuntime) -> Result<(), Fail> {
-    let alloc = rt.alloc();
-    let plan = Plan::new(alloc)?;
-    let goes = Arc::new(alloc, AtomicBool::new(false))?;
-    let mut links = channel_links(rt, alloc, &PARTIES)?;
-    let mut link = links.pop().ok_or("no link")?;
-    let mut stores = stores_in(rt, "hung")?;
-    fs::create_dir(&rt, "hung")?;
-    if let Some(last) = stores.last_mut() {
-        last.hangs_until = Some(Arc::try_clone(&goes)?);
-    }
-    let seats = timed(rt, links, stores)?;
-    let (mut cluster, threads) = started(&rt, alloc, &plan, seats)?;
-    let seen = seen_of_a_hang(&rt, &mut cluster, &mut link, &goes);
-    drop(cluster);
-    threads.join(&rt);
-    assert_eq!(rt; seen, [true; 6]);
-    Ok(fs::remove_dir_all(&rt, "hung")?)
-}
-
 /// Who takes nothing keeps no more than so many messages, and holds up nobody who sends them.
 #[test]
 fn what_waits_for_a_party_is_bounded(rt: HostRuntime) -> Result<(), Fail> {
@@ -445,7 +369,9 @@ fn what_waits_for_a_party_is_bounded(rt: HostRuntime) -> Result<(), Fail> {
     let mut count = 0u32;
     for _ in 0..5000u32 {
         let input = stalled.recv();
-        if !matches!(input, Input::Message(_)) {
+        let is_message = matches!(&input, Input::Message(_));
+        drop(input);
+        if !is_message {
             break;
         }
         count = count.saturating_add(1);

@@ -60,7 +60,9 @@ fn came_of(input: &Input) -> Came {
 /// What comes next.
 fn next<L: Link>(link: &mut L) -> Came {
     let input = link.recv();
-    came_of(&input)
+    let came = came_of(&input);
+    drop(input);
+    came
 }
 
 /// The numbers of so many COMMITs are added up while they rise; what else came ends it.

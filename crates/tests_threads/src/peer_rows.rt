@@ -1,14 +1,10 @@
-//! Links to other machines, over connections of this one: who is joined and who is refused, and what comes.
-
-ghost use Rattle.std.specs.Prelude.{◌≤◌, length};
+//! Links to other machines, over connections of this one: what comes over them.
 
 use crate::shelf::CLIENT;
 use il_model::{Command, ImageBytes, InImage};
 use net_ends::{Inbox, NonBlocking};
-use net_hello::{Epoch, HELLO, Hello, Known, Refusal, said_to_strangers};
-use net_peers::{
-    Exchange, FIRST_CONSOLE, LinkNotice, Machine, PeerLink, Pulse, VISIT, machine_links,
-};
+use net_hello::{Epoch, HELLO, Hello, Known};
+use net_peers::{Exchange, FIRST_CONSOLE, Machine, PeerLink, Pulse, VISIT, machine_links};
 use net_records::Records;
 use std::alloc::Global;
 use std::io::{ErrorKind, Read, Write};
@@ -121,12 +117,6 @@ pub(crate) fn alone<R: Runtime>(rt: R) -> Result<Seat<R>, Fail> {
     seat_of(rt, &machine, listener)
 }
 
-/// Machine 1, which dials replica 0 at this address, and its listener.
-fn dialling<R: Runtime>(rt: R, to: SocketAddr) -> Result<(Machine, TcpListener), Fail> {
-    let (listener, at) = listening(&rt)?;
-    Ok((machine_of(rt.alloc(), 1, &[to, at, at])?, listener))
-}
-
 /// A COMMIT from a replica to another.
 fn commit(from: u8, to: u8, number: u64) -> Message {
     Message {
@@ -199,29 +189,6 @@ impl<R: Runtime> Seat<R> {
     pub(crate) fn visits(&self) -> Vec<[u8; VISIT]> {
         self.exchange.visits(&self.rt, self.rt.alloc())
     }
-
-    /// What it noticed since it was asked last.
-    fn notices(&self) -> Vec<LinkNotice> {
-        self.exchange.notices(&self.rt, self.rt.alloc())
-    }
-
-    /// Someone connects and sends these bytes: what it noticed. He has to be answered so.
-    fn notices_of(&mut self, bytes: &[u8], answer: &Hello) -> Result<Vec<LinkNotice>, Fail> {
-        let mut stream = self.meet(bytes, 20)?;
-        if is_answered(&mut stream, answer)? {
-            Ok(self.notices())
-        } else {
-            Err(Fail::new("no answer"))
-        }
-    }
-
-    /// Whether of someone who comes twice, and is answered each time, this is noticed once.
-    fn is_noticed_once(&mut self, bytes: &[u8], notice: LinkNotice) -> Result<bool, Fail> {
-        let answer = answer_by(notice);
-        let first = self.notices_of(bytes, &answer)?;
-        let second = self.notices_of(bytes, &answer)?;
-        Ok(first.as_slice() == [notice].as_slice() && second.is_empty())
-    }
 }
 
 /// A connection of someone who sends these bytes, and gives up waiting after a second.
@@ -230,202 +197,6 @@ fn stranger<R: Runtime>(rt: R, at: SocketAddr, bytes: &[u8]) -> Result<TcpStream
     stream.set_read_timeout(Some(Duration::from_millis(1000)))?;
     stream.write_all(bytes)?;
     Ok(stream)
-}
-
-/// Whether nothing comes any more but beats and a hello.
-fn is_over(stream: &mut TcpStream) -> bool {
-    let mut bytes = [0u8; 200];
-    for _ in 0..200u32 {
-        match stream.read(&mut bytes) {
-            Ok(0) => return true,
-            Ok(_) => {}
-            Err(error) => return error.kind() == ErrorKind::ConnectionReset,
-        }
-    }
-    false
-}
-
-/// What replica 0 answers to one that it refuses so, but for what it knows of that one: who isn't of its group, or speaks
-/// in another version, is told nothing.
-fn answer_by(notice: LinkNotice) -> Hello {
-    let replica = Party::Replica(0);
-    match notice {
-        LinkNotice::Refused(_, Refusal::OtherGroup | Refusal::OtherVersion) => {
-            said_to_strangers(replica)
-        }
-        _ => hello_of(replica, 3),
-    }
-}
-
-/// Whether it answers with this hello, whatever it knows of the other end, and closes.
-fn is_answered(stream: &mut TcpStream, answer: &Hello) -> Result<bool, Fail> {
-    let mut bytes = [0u8; HELLO];
-    stream.read_exact(&mut bytes)?;
-    match Hello::read(&bytes) {
-        Ok(Some(hello)) => {
-            let told = Hello {
-                known: Known::nothing(),
-                ..hello
-            };
-            Ok(told == *answer && is_over(stream))
-        }
-        _ => Ok(false),
-    }
-}
-
-/// What is known of a machine with this store, which was started so often.
-fn known(store: u64, starts: u64) -> Known {
-    Known { store, starts }
-}
-
-/// Hellos that replica 0 refuses, and why: another store of machine 1 than the one that it saw, and one that saw another
-/// store of machine 0, or a later start of it.
-fn refused() -> [(Hello, Refusal); 10] {
-    let from = hello_of(Party::Replica(1), 3);
-    let later = Epoch {
-        number: 8,
-        image: [2; 32],
-    };
-    let changed = Epoch {
-        number: 7,
-        image: [3; 32],
-    };
-    [
-        (
-            Hello {
-                identity: [3; 32],
-                ..from
-            },
-            Refusal::OtherGroup,
-        ),
-        (
-            Hello {
-                epoch: later,
-                ..from
-            },
-            Refusal::OtherEpoch,
-        ),
-        (
-            Hello {
-                epoch: changed,
-                ..from
-            },
-            Refusal::OtherProgram,
-        ),
-        (Hello { fresh: 141, ..from }, Refusal::OtherFresh),
-        (Hello { store: 99, ..from }, Refusal::OtherStore),
-        (
-            Hello {
-                known: known(99, 3),
-                ..from
-            },
-            Refusal::OwnStore,
-        ),
-        (
-            Hello {
-                starts: 5,
-                known: known(store_of(0), 4),
-                ..from
-            },
-            Refusal::OwnStarts,
-        ),
-        (hello_of(Party::Replica(0), 3), Refusal::OwnParty),
-        (hello_of(Party::Replica(3), 3), Refusal::NoMember),
-        (hello_of(Party::Replica(1), 4), Refusal::FewerStarts),
-    ]
-}
-
-/// Each is answered, closed and noticed once, though it comes twice, and so is one of another version. The last one of
-/// them is accepted, and refused where one with more starts was before it.
-#[test]
-fn each_refusal_is_answered_and_noticed_once(rt: HostRuntime) -> Result<(), Fail> {
-    let mut seat = alone(rt)?;
-    let newer = hello_of(Party::Replica(1), 5).spell(rt.alloc())?;
-    let _newer = seat.meet(newer.as_slice(), 20)?;
-    for (hello, refusal) in refused() {
-        let bytes = hello.spell(rt.alloc())?;
-        let notice = LinkNotice::Refused(Some(hello.party), refusal);
-        assert!(rt; seat.is_noticed_once(bytes.as_slice(), notice)?);
-    }
-    let notice = LinkNotice::Refused(None, Refusal::OtherVersion);
-    assert!(rt; seat.is_noticed_once(b"PLC-VR\0\x01", notice)?);
-    Ok(())
-}
-
-/// Who is reached behind the older of these, and behind the newer, as they come; and whether the older one's connection is
-/// over then, and refused where it comes again.
-fn replaced<R: Runtime>(
-    seat: &mut Seat<R>,
-    older: &[u8],
-    newer: &[u8],
-) -> Result<((u8, u8), bool), Fail> {
-    let mut first = seat.meet(older, 20)?;
-    let behind_older = seat.exchange.reached();
-    let _second = seat.meet(newer, 20)?;
-    let behind_newer = seat.exchange.reached();
-    let mut third = seat.meet(older, 20)?;
-    let answer = hello_of(Party::Replica(0), 3);
-    let is_refused = is_over(&mut first) && is_answered(&mut third, &answer)?;
-    Ok(((behind_older, behind_newer), is_refused))
-}
-
-/// One that was started again replaces the older, which isn't taken back.
-#[test]
-fn a_higher_start_replaces_and_an_old_one_is_refused(rt: HostRuntime) -> Result<(), Fail> {
-    let mut seat = alone(rt)?;
-    let older = hello_of(Party::Replica(1), 3).spell(rt.alloc())?;
-    let mut newer = hello_of(Party::Replica(1), 4).spell(rt.alloc())?;
-    newer.extend_from_slice(b"\0\0")?;
-    let seen = replaced(&mut seat, older.as_slice(), newer.as_slice())?;
-    assert_eq!(rt; seen, ((0, 2), true));
-    Ok(())
-}
-
-/// The store of a machine is told once, when it was seen for the first time.
-#[test]
-fn a_store_is_told_once(rt: HostRuntime) -> Result<(), Fail> {
-    let mut seat = alone(rt)?;
-    let hello = hello_of(Party::Replica(1), 3).spell(rt.alloc())?;
-    for _ in 0..2u32 {
-        drop(seat.meet(hello.as_slice(), 20)?);
-    }
-    let seen = seat.exchange.stores(&rt, rt.alloc());
-    assert!(rt; seen.as_slice() == [(1u8, store_of(1))].as_slice());
-    Ok(())
-}
-
-/// What two that are refused by one another notice, each.
-fn notices_of_both<R: Runtime>(
-    alloc: Global,
-    seat: &mut Seat<R>,
-    other: &mut Seat<R>,
-) -> Result<(Vec<LinkNotice>, Vec<LinkNotice>), Fail> {
-    let (mut near, mut far) = (Vec::new(alloc), Vec::new(alloc));
-    for round in 0..1000u32 {
-        seat.run(5)?;
-        other.run(5)?;
-        near.append(&mut seat.notices())?;
-        far.append(&mut other.notices())?;
-        if round > 60 && !near.is_empty() && !far.is_empty() {
-            break;
-        }
-    }
-    Ok((near, far))
-}
-
-/// Both ends of a connection between two groups are told, once, though it's dialled again and again.
-#[test]
-fn both_ends_are_told_of_a_refusal(rt: HostRuntime) -> Result<(), Fail> {
-    let mut seat = alone(rt)?;
-    let (mut machine, listener) = dialling(rt, seat.at())?;
-    machine.identity = [3; 32];
-    let mut other = seat_of(rt, &machine, listener)?;
-    let (near, far) = notices_of_both(rt.alloc(), &mut seat, &mut other)?;
-    let told = LinkNotice::Refused(Some(Party::Replica(1)), Refusal::OtherGroup);
-    assert!(rt; near.as_slice() == [told].as_slice());
-    let told = LinkNotice::Refused(Some(Party::Replica(0)), Refusal::OtherGroup);
-    assert!(rt; far.as_slice() == [told].as_slice());
-    Ok(())
 }
 
 /// Of the links of a machine that of its replica, and that of its driver.
@@ -502,230 +273,6 @@ fn a_machine_is_one_of_its_group(rt: HostRuntime) -> Result<(), Fail> {
     let of_three = unlinked(rt, 3, &[at, at, at])?;
     let of_nine = unlinked(rt, 0, &[at; 9])?;
     assert!(rt; of_three == ErrorKind::InvalidInput && of_nine == ErrorKind::InvalidInput);
-    Ok(())
-}
-
-/// A hello of replica 1, a beat, and a record with the COMMIT of number 2 from it.
-fn introduced(alloc: Global) -> Result<Vec<u8>, Fail> {
-    let mut bytes = hello_of(Party::Replica(1), 3).spell(alloc)?;
-    bytes.extend_from_slice(b"\0\0\0\x17\0\0\0\x13\x04\x01\0")?;
-    bytes.extend_from_slice(b"\0\0\0\0\0\0\0\0\0\0\0\0\0\0\0\x02")?;
-    Ok(bytes)
-}
-
-/// What comes of bytes that are cut there, and whose second part is sent later.
-fn given_of<R: Runtime>(seat: &mut Seat<R>, bytes: &[u8], cut: usize) -> Result<u64, Fail>
-    requires { cut ≤ length bytes.now }
-{
-    let (front, behind) = bytes.split_at(cut);
-    let mut stream = seat.meet(front, 1)?;
-    stream.write_all(behind)?;
-    seat.run(20)
-}
-
-/// The same. Where this machine has so much else to do that a hello isn't whole in time, it's tried again.
-fn given_in_time<R: Runtime>(seat: &mut Seat<R>, bytes: &[u8], cut: usize) -> Result<u64, Fail>
-    requires { cut ≤ length bytes.now }
-{
-    for _ in 0..10u32 {
-        let given = given_of(seat, bytes, cut)?;
-        if given != 0 {
-            return Ok(given);
-        }
-    }
-    Ok(0)
-}
-
-#[test]
-fn a_message_comes_however_hello_and_record_are_cut(rt: HostRuntime) -> Result<(), Fail> {
-    let mut seat = alone(rt)?;
-    let bytes = introduced(rt.alloc())?;
-    for cut in 1..bytes.len() {
-        let given = given_in_time(&mut seat, bytes.as_slice(), cut)?;
-        assert_eq!(rt; (cut, given), (cut, 2));
-    }
-    Ok(())
-}
-
-#[test]
-fn strangers_are_let_go(rt: HostRuntime) -> Result<(), Fail> {
-    let mut seat = alone(rt)?;
-    let mut silent = seat.meet(b"", 1)?;
-    let mut half = seat.meet(b"PLC-VR\0\x02half a hello", 1)?;
-    let mut garbage = seat.meet(b"GET / HTTP/1.1\r\n\r\n", 20)?;
-    assert!(rt; is_over(&mut garbage));
-    let mut bytes = hello_of(Party::Replica(1), 3).spell(rt.alloc())?;
-    bytes.extend_from_slice(b"\0\x04\0\0\0\0")?;
-    let mut broken = seat.meet(bytes.as_slice(), 20)?;
-    assert!(rt; is_over(&mut broken));
-    seat.run(450)?;
-    assert!(rt; is_over(&mut silent) && is_over(&mut half));
-    Ok(())
-}
-
-/// A way between two parties, which can be parted.
-#[derive(Drop)]
-struct Pipe {
-    listener: TcpListener,
-    to: SocketAddr,
-    pairs: Vec<(TcpStream, TcpStream)>,
-}
-
-/// Copies what is there. False where it's over.
-fn copy(from: &mut TcpStream, to: &mut TcpStream) -> bool {
-    let mut bytes = [0u8; 4096];
-    match from.read(&mut bytes) {
-        Ok(0) => false,
-        Ok(count) => to.write_all(&bytes[..count]).is_ok(),
-        Err(error) => error.kind() == ErrorKind::WouldBlock,
-    }
-}
-
-impl Pipe {
-    /// Hands on what is there, both ways.
-    fn pump<R: Runtime>(&mut self, rt: R) -> Result<(), Fail> {
-        if let Ok((near, _)) = self.listener.accept() {
-            let far = TcpStream::connect(&rt, self.to)?;
-            near.set_nonblocking(true)?;
-            far.set_nonblocking(true)?;
-            self.pairs.push((near, far))?;
-        }
-        for (near, far) in self.pairs.iter_mut() {
-            let _ = copy(near, far);
-            let _ = copy(far, near);
-        }
-        Ok(())
-    }
-}
-
-/// Replica 0, and replica 1, which dials it by way of a pipe.
-#[derive(Drop)]
-struct Pair<R: Runtime> {
-    first: Seat<R>,
-    second: Seat<R>,
-    pipe: Pipe,
-}
-
-/// A pipe to this address, and where it begins.
-fn pipe_to<R: Runtime>(rt: R, to: SocketAddr) -> Result<(Pipe, SocketAddr), Fail> {
-    let (listener, at) = listening(&rt)?;
-    listener.set_nonblocking(true)?;
-    let pipe = Pipe {
-        listener,
-        to,
-        pairs: Vec::new(rt.alloc()),
-    };
-    Ok((pipe, at))
-}
-
-/// How long something took, in milliseconds, and how long a round of it at most: a machine that has much else to do lets
-/// a test stand still.
-#[derive(Clone, Copy)]
-struct Taken {
-    all: u64,
-    longest: u64,
-}
-
-impl Taken {
-    /// A round more, which ended so late.
-    fn at(self, late: Duration) -> Taken {
-        let all = u64::try_from(late.as_millis()).unwrap_or(u64::MAX);
-        let longest = self.longest.max(all.saturating_sub(self.all));
-        Taken { all, longest }
-    }
-}
-
-/// So many milliseconds are an end of waiting.
-const LONG: u64 = 15_000;
-
-impl<R: Runtime> Pair<R> {
-    fn new(rt: R) -> Result<Pair<R>, Fail> {
-        let first = alone(rt)?;
-        let (pipe, by) = pipe_to(rt, first.at())?;
-        let (machine, listener) = dialling(rt, by)?;
-        let second = seat_of(rt, &machine, listener)?;
-        Ok(Pair {
-            first,
-            second,
-            pipe,
-        })
-    }
-
-    /// How long it takes until these replicas are reached, over a pipe that carries what it's given or drops it; longer
-    /// than is waited where they aren't.
-    fn until(&mut self, carries: bool, reached: (u8, u8)) -> Result<Taken, Fail> {
-        let rt = self.first.rt;
-        let begun = Instant::now(&rt)?;
-        let mut taken = Taken { all: 0, longest: 0 };
-        for _ in 0..u32::MAX {
-            taken = taken.at(Instant::now(&rt)?.saturating_duration_since(begun));
-            if self.reached() == reached || taken.all > LONG {
-                return Ok(taken);
-            }
-            if carries {
-                self.pipe.pump(rt)?;
-            }
-            self.first.link.recv();
-            self.second.link.recv();
-        }
-        Err(Fail::new("no end"))
-    }
-
-    /// Who is reached by each.
-    fn reached(&self) -> (u8, u8) {
-        (
-            self.first.exchange.reached(),
-            self.second.exchange.reached(),
-        )
-    }
-
-    /// Nothing passes for three seconds.
-    fn stand_apart(&mut self) -> Result<(), Fail> {
-        for _ in 0..150u32 {
-            self.first.run(10)?;
-            self.second.run(10)?;
-        }
-        self.pipe.pairs.clear();
-        Ok(())
-    }
-
-    /// How long it takes until they are joined, until both notice that nothing passes, and until they are joined again
-    /// behind three seconds.
-    fn part_and_heal(&mut self) -> Result<[Taken; 3], Fail> {
-        let joined = self.until(true, (2, 1))?;
-        let parted = self.until(false, (0, 0))?;
-        self.stand_apart()?;
-        let healed = self.until(true, (2, 1))?;
-        Ok([joined, parted, healed])
-    }
-
-    /// The second sends the number 7, and a message that no frame names: what came, and how many had no frame.
-    fn send(&mut self) -> Result<(u64, u64), Fail> {
-        self.second.link.send(commit(200, 0, 8));
-        self.second.link.send(commit(1, 0, 7));
-        for _ in 0..10u32 {
-            self.pipe.pump(self.first.rt)?;
-            self.second.run(1)?;
-        }
-        Ok((self.first.run(20)?, self.second.link.frameless()))
-    }
-}
-
-/// Nothing passes for three seconds: both notice it, and are joined within one and a half seconds of its end, unless
-/// this machine lets them stand still.
-#[test]
-fn a_partition_heals(rt: HostRuntime) -> Result<(), Fail> {
-    let mut pair = Pair::new(rt)?;
-    let [joined, parted, healed] = pair.part_and_heal()?;
-    let sent = pair.send()?;
-    assert!(rt; joined.all <= LONG && parted.all <= LONG);
-    assert!(rt;
-        healed.all <= 1500 || (healed.longest > 100 && healed.all <= LONG),
-        "{} {}",
-        healed.all,
-        healed.longest
-    );
-    assert_eq!(rt; sent, (7, 1));
     Ok(())
 }
 
@@ -826,8 +373,10 @@ impl<R: Runtime> Trio<R> {
         Ok(())
     }
 
-    /// A message is sent to the other one, which reads: how many came, and the number of the last.
+    /// A message is sent to the other one, which reads, behind one that no frame names: how many came, and the number of
+    /// the last.
     fn send_other(&mut self, alloc: Global) -> Result<(u64, u64), Fail> {
+        self.seat.link.send(commit(200, 2, 8));
         self.seat.link.send(commit(0, 2, 1));
         for _ in 0..20u32 {
             self.beat();
@@ -856,12 +405,12 @@ impl<R: Runtime> Trio<R> {
 }
 
 /// Many more bytes are sent to one that stands still than its connection holds and may wait: 8 million. What is lost is
-/// lost whole, and another one gets its own meanwhile.
+/// lost whole, and another one gets its own meanwhile, but for a message that has no frame, which is counted.
 #[test]
 fn one_that_stands_still_delays_no_other(rt: HostRuntime) -> Result<(), Fail> {
     let mut trio = Trio::new(rt)?;
     let (other, (is_rising, count)) = trio.stand_still(rt.alloc())?;
-    assert_eq!(rt; other, (1, 1));
+    assert_eq!(rt; (other, trio.seat.link.frameless()), ((1, 1), 1));
     assert!(rt; is_rising && count > 32 && count < 250, "{count}");
     Ok(())
 }

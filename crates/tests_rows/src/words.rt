@@ -1,0 +1,161 @@
+//! What the words of a call ask for, as lines.
+
+use plc_settings::Settings;
+use plc_words::{AskedConsole, OperatorsAt, Words, read_words};
+use std::alloc::{AllocError, Global};
+
+/// What the words of a line ask for; `no call` where they ask for nothing.
+pub fn asked(alloc: Global, line: &str) -> Result<String, AllocError> {
+    let mut words = Vec::new(alloc);
+    for word in line.split_whitespace() {
+        words.push(word)?;
+    }
+    match read_words(alloc, words.as_slice()) {
+        Ok(words) => shown(alloc, &words),
+        Err(_) => String::from_str(alloc, "no call"),
+    }
+}
+
+fn shown(alloc: Global, words: &Words) -> Result<String, AllocError> {
+    match words {
+        Words::Serve {
+            source,
+            stores,
+            report,
+            settings,
+            operators,
+        } => {
+            let settings = service(alloc, settings, operators)?;
+            format!(in alloc; "serve {source}, stores {stores:?}, report {report:?}\n{settings}")
+        }
+        _ => of_another(alloc, words),
+    }
+}
+
+/// A call that is no service of its own replicas.
+fn of_another(alloc: Global, words: &Words) -> Result<String, AllocError> {
+    match *words {
+        Words::ServeMachine {
+            group,
+            directory,
+            trace,
+        } => format!(in alloc; "serve a machine of {group}, store {directory}, trace {trace:?}"),
+        Words::Ask { console, commands } => asking(alloc, "ask", commands, &console),
+        Words::Change { console, source } => asking(alloc, "change to", source, &console),
+        Words::Field {
+            field,
+            check,
+            once,
+            stop,
+            status,
+        } => format!(in alloc;
+            "field {field}, check {check}, once {once}, stop {stop}, status {status:?}"
+        ),
+        _ => of_files(alloc, words),
+    }
+}
+
+/// How it's served, and how operators come to it.
+fn service(
+    alloc: Global,
+    settings: &Settings,
+    operators: &OperatorsAt,
+) -> Result<String, AllocError> {
+    let Settings {
+        config,
+        budget,
+        port,
+        period,
+        scans,
+        idle,
+        links,
+        crash,
+        lost_after,
+        console,
+        stale,
+        status,
+    } = settings;
+    let (f, every, budget) = (config.f, config.every, budget.instructions);
+    let (socket, key) = (operators.socket, operators.key);
+    format!(in alloc;
+        "f {f}, every {every}, budget {budget}, links {links:?}, port {port}, period {period}, idle {idle}\n\
+         scans {scans:?}, crash {crash:?}, lost after {lost_after}, stale {stale:?}\n\
+         console {console:?}, socket {socket:?}, key {key:?}, status {status:?}"
+    )
+}
+
+/// What is sent to a console, and where that is.
+fn asking(
+    alloc: Global,
+    what: &str,
+    file: &str,
+    console: &AskedConsole,
+) -> Result<String, AllocError> {
+    let AskedConsole {
+        place,
+        timeout,
+        key,
+    } = console;
+    format!(in alloc; "{what} {file} at {place:?}, timeout {timeout}, key {key:?}")
+}
+
+/// A call that works on files and ends.
+fn of_files(alloc: Global, words: &Words) -> Result<String, AllocError> {
+    match *words {
+        Words::Asm { source, image } => format!(in alloc; "asm {source}, image {image}"),
+        Words::List { image } => format!(in alloc; "list {image}"),
+        Words::Names { source } => format!(in alloc; "names {source}"),
+        Words::Diff { old, new } => format!(in alloc; "diff {old}, new {new}"),
+        Words::Run {
+            source,
+            commands,
+            budget,
+        } => {
+            let budget = budget.instructions;
+            format!(in alloc; "run {source}, commands {commands}, budget {budget}")
+        }
+        Words::Sim {
+            source,
+            schedule,
+            config,
+            budget,
+        } => {
+            let (f, every, budget) = (config.f, config.every, budget.instructions);
+            format!(in alloc;
+                "sim {source}, schedule {schedule}, f {f}, every {every}, budget {budget}"
+            )
+        }
+        _ => of_a_store(alloc, words),
+    }
+}
+
+/// A call that makes a group or a store, or shows or changes one.
+fn of_a_store(alloc: Global, words: &Words) -> Result<String, AllocError> {
+    match *words {
+        Words::Format {
+            source,
+            group,
+            machine,
+            waits,
+            directory,
+        } => format!(in alloc;
+            "format {directory}, program {source}, group {group}, machine {machine}, waits {waits}"
+        ),
+        Words::NewGroup { group } => format!(in alloc; "new group {group}"),
+        Words::EnterEpoch {
+            group,
+            epoch,
+            program,
+            forgets,
+            directory,
+        } => format!(in alloc;
+            "epoch {epoch:?} of {directory}, group {group}, program {program:?}, forgets {forgets}"
+        ),
+        Words::Show { directory } => format!(in alloc; "show {directory}"),
+        Words::Listing {
+            is_changed,
+            directory,
+        } => format!(in alloc; "listing of {directory}, changed {is_changed}"),
+        _ => String::from_str(alloc, "another call"),
+    }
+}

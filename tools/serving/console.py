@@ -1,0 +1,252 @@
+"""What an operator is answered at a controller's console."""
+import os
+import re
+import socket
+import time
+
+from controller import PATIENCE, Served, came_true, ended, free_port, is_closed, is_written, reply_to, request, take
+
+# Counts up %IW0: 32767 stops it at instruction 1, and 2 is behind the sum.
+SOURCE = 'LD %IW0\nADD 1\nST %QW0\n'
+
+# What it's changed to. Of its instructions four are performed; behind them come so many more that its image has 4 kB.
+SECOND = 'VAR N : INT := 10; END_VAR\nLD N\nADD 1\nST %QW0\nRET\n' + 1000 * 'LD N\n'
+
+# An image with the variable N.
+IMAGE = '494C5043000100010000000000000003014E01FFFF0000000A010014000900400002001400'
+
+# Once a line is told, or at once behind the row before, this is asked, and answered so; `?` stands for any number. The
+# plant stops, and is reset; a scan is held, goes one instruction on, and then to its end. The program is changed, and
+# its names are looked up, also in the session of an operator who comes later.
+STOPS = [
+    ('"status"', 'status scans ? normal ? of 3'),
+    ('"forces"', 'forces'),
+    ('"cr"', 'refused 1'),
+    ('{"read": "N"}', 'refused 3'),
+    ('{"change": "00"}', 'refused 6'),
+    ('{"force": ["%IW0", 32767]}', 'done'),
+    ('"forces"', 'forces %IW0=32767')]
+RESETS = [
+    ('"cr"', 'value INT#32767'),
+    ('{"unforce": "%IW0"}', 'done'),
+    ('"forces"', 'forces'),
+    ('{"break": 2}', 'done'),
+    ('{"break": 1}', 'done'),
+    ('{"break": 3}', 'refused 2'),
+    ('"breaks"', 'breaks 1 2'),
+    ('"reset"', 'done')]
+HOLDS = [
+    ('"cr"', 'value INT#0'),
+    ('"step"', 'held 2'),
+    ('"cr"', 'value INT#1'),
+    ('{"clear": 1}', 'done'),
+    ('{"clear": 2}', 'done'),
+    ('{"read": "N"}', 'refused 3'),
+    (f'{{"change": "{IMAGE}"}}', 'refused 7'),
+    ('"continue"', 'outputs ? QW0=1'),
+    ('"continue"', 'refused 1')]
+CHANGED = [
+    ('{"read": "N"}', 'value INT#10'),
+    ('"breaks"', 'breaks'),
+    ('{"break": 3}', 'done')]
+LATER = [
+    ('{"read": "N"}', 'value INT#10'),
+    ('"cr"', 'value INT#11'),
+    ('{"clear": 3}', 'done'),
+    ('"continue"', 'outputs ? QW0=11'),
+    ('{"read": "%QW0"}', 'value INT#11')]
+
+# What is told of all that, once each; that the held scan goes on is told twice.
+DONE = ('console break 2', 'console break 1', 'console reset', 'console step', 'console change', 'console break 3',
+        'console clear 1', 'console clear 2', 'console clear 3')
+GOES_ON = 'console continue'
+
+# Lines that are no command of a console: no JSON, no command, a scan, bytes that aren't UTF-8, an empty line. Behind
+# two of them comes a command each time: three in a row would end the session.
+BAD_LINES = b'{\n"stop"\n"cr"\n{"scan":{"ix":[],"iw":[],"moment":0}}\n"\xff"\n"cr"\n\n"cr"\n'
+BAD_ANSWERS = 2 * (2 * b'plc: commands\n' + b'refused 1\n') + b'plc: commands\nrefused 1\n'
+
+LONGEST = 131072        # bytes of a line
+IMAGE_BYTES = 32768     # of the longest image that a change may have
+
+# What ends a session, and what the client is told then: a browser's request with a command behind its head, as `fetch`
+# and a form send it; a field of a head alone, behind a command; three lines in a row that are no command.
+ENDS = [(b'POST / HTTP/1.1\r\nHost: 127.0.0.1:7680\r\n\r\n{"force":["%IW0",1]}\n"reset"\n', b'plc: session ends\n'),
+        (b'GET /state HTTP/1.0\n"reset"\n', b'plc: session ends\n'),
+        (b'"breaks"\nContent-Type: text/plain\n"reset"\n', b'breaks\nplc: session ends\n'),
+        (b'"cr"\n=\n=\n=\n"reset"\n', b'refused 1\nplc: commands\nplc: commands\nplc: session ends\n')]
+
+
+def connection(port):
+    return socket.create_connection(('127.0.0.1', port), PATIENCE)
+
+
+class Operator:
+    """One at a console."""
+
+    def __init__(self, port):
+        self.stream = connection(port)
+        self.lines = self.stream.makefile('rb')
+
+    def close(self):
+        self.lines.close()
+        self.stream.close()
+
+    def answer(self):
+        return self.lines.readline().decode().rstrip('\n')
+
+    def is_answered(self, rows):
+        """Whether each of these is answered so."""
+        for asked, wanted in rows:
+            self.stream.sendall(asked.encode() + b'\n')
+            came = self.answer()
+            if not re.fullmatch(re.escape(wanted).replace(r'\?', r'\d+'), came):
+                print(f'  {asked}: {came!r}, and not {wanted!r}')
+                return False
+        return True
+
+
+def image_of(plc, work, text):
+    """The image of a text, as hexadecimal digits."""
+    source, image = os.path.join(work, 'changed.il'), os.path.join(work, 'changed.image')
+    with open(source, 'w') as file:
+        file.write(text)
+    ended(plc, 'asm', source, image)
+    with open(image, 'rb') as file:
+        return file.read().hex()
+
+
+def is_asked(plc, work, served, console):
+    """Whether an operator is answered all that, and all that he did is told, once each."""
+    first, second = Operator(console), image_of(plc, work, SECOND)
+    right = first.is_answered(STOPS) and served.says('stopped overflow 1') and first.is_answered(RESETS)
+    right = right and served.says('held 1') and first.is_answered(HOLDS)
+    right = right and first.is_answered([(f'{{"change": "{second}"}}', 'done'), *CHANGED]) and served.says('held 3')
+    first.close()
+    later = Operator(console)
+    right = right and later.is_answered(LATER) and served.says(GOES_ON, times=2)
+    later.close()
+    return right and served.lines.count(GOES_ON) == 2 and all(served.lines.count(line) == 1 for line in DONE)
+
+
+def an_operator_is_answered(plc, work):
+    """The plant stops for a forced input, the operator asks why, and a reset brings it back; a scan is held, goes on by
+    a step, and is continued; the program is changed to one of 4 kB, whose names are those of the session, and of the
+    next one. All that was done is told, once each."""
+    console = free_port()
+    with Served(plc, work, '--period', 100, '--console', console, source=SOURCE) as served:
+        right = served.serves() and is_asked(plc, work, served, console)
+        if not right:
+            print('  ', served.lines)
+        return right and not any('crashed' in line for line in served.lines)
+
+
+def an_operator_is_answered_over_crashes(plc, work):
+    """The same, while replicas crash, the primary among them."""
+    console = free_port()
+    with Served(plc, work, '--period', 100, '--console', console, '--crash', 2, source=SOURCE) as served:
+        right = served.serves() and is_asked(plc, work, served, console)
+        right = right and served.says('replica 0 crashed') and served.says('replica 1 crashed')
+        if not right:
+            print('  ', served.lines)
+        return right
+
+
+def is_line_answered(stream, front, filled, behind, answer):
+    """Whether a long line is answered so."""
+    stream.sendall(front + filled + behind)
+    return take(stream, len(answer)) == answer
+
+
+def no_commands_are_refused(plc, work):
+    """Lines that are no command are answered as such, and others behind them as ever. The longest line and the longest
+    image are taken, a byte more isn't. Three such lines in a row, and what a browser sends, end a session, and nothing
+    behind them is done."""
+    console = free_port()
+    with Served(plc, work, '--period', 100, '--console', console, source=SOURCE) as served:
+        right = served.serves()
+        for sent, told in ENDS:
+            with connection(console) as stream:
+                stream.sendall(sent)
+                right = right and take(stream, len(told)) == told and is_closed(stream)
+        with connection(console) as stream:
+            stream.sendall(BAD_LINES)
+            right = right and take(stream, len(BAD_ANSWERS)) == BAD_ANSWERS
+            spaces, digits = b' ' * (LONGEST - 4), b'00' * IMAGE_BYTES
+            right = right and is_line_answered(stream, b'', spaces, b'"cr"\n', b'refused 1\n')
+            right = right and is_line_answered(stream, b' ', spaces, b'"cr"\n', b'plc: commands\n')
+            right = right and is_line_answered(stream, b'{"change":"', digits, b'"}\n', b'refused 6\n')
+            right = right and is_line_answered(stream, b'{"change":"00', digits, b'"}\n', b'plc: commands\n')
+            stream.sendall(b'"forces"\n')
+            right = right and take(stream, 7) == b'forces\n'
+        right = right and served.says('console refused', times=len(ENDS))
+        if not right:
+            print('  ', served.lines)
+        return right and not any(line in served.lines for line in ('console reset', 'console force 1024'))
+
+
+def an_operator_gives_way(plc, work):
+    """A second operator takes the console over, and the first is told; who says nothing has no more time than a client;
+    who asks at another port, or where nobody listens, gives up."""
+    console = free_port()
+    with Served(plc, work, '--period', 20, '--idle', 4, '--console', console) as served:
+        right = served.serves()
+        first = Operator(console)
+        right = right and first.is_answered([('"cr"', 'refused 1')])
+        right = right and ended(plc, 'ask', f'127.0.0.1:{console}', '-', input='["cr"]') == (4, 'refused 1\n', '')
+        right = right and first.answer() == 'plc: taken over' and first.answer() == ''
+        right = right and served.says('console taken over')
+        first.close()
+        begun = time.monotonic()
+        with connection(console) as silent:
+            right = right and is_closed(silent) and time.monotonic() - begun >= 3.9
+        right = right and ended(plc, 'ask', served.port, '-', '--timeout', 1, input='["cr"]')[0] == 2
+        nobody = ended(plc, 'ask', free_port(), '-', input='["cr"]')
+        if not right:
+            print('  ', served.lines)
+        return right and nobody[0] == 2 and nobody[2].startswith('plc: device port ')
+
+
+def flood(console):
+    """A connection of one who asks on until nothing is taken any more, and reads nothing."""
+    deaf = socket.socket()
+    deaf.setsockopt(socket.SOL_SOCKET, socket.SO_RCVBUF, 4096)
+    deaf.settimeout(PATIENCE)
+    deaf.connect(('127.0.0.1', console))
+    deaf.settimeout(0.5)
+    try:
+        for _ in range(4096):
+            deaf.sendall(b'"breaks"\n' * 4096)
+    except OSError:
+        pass
+    return deaf
+
+
+def a_deaf_operator_is_let_go(plc, work):
+    """One who reads no answers has no more time than a client, others come behind him, and clients are served
+    meanwhile; a controller that has such a one ends well all the same."""
+    console = free_port()
+    with Served(plc, work, '--period', 20, '--idle', 2, '--console', console) as served:
+        right = served.serves()
+        deaf = flood(console)
+
+        def is_served():
+            return ended(plc, 'ask', console, '-', '--timeout', 2, input='["cr"]')[:2] == (4, 'refused 1\n')
+
+        with served.client() as client:
+            right = right and is_written(client, 6, 0, 4) and came_true(is_served)
+            right = right and len(reply_to(client, request(1, 0, 2))) == 10
+        deaf.close()
+    console = free_port()
+    with Served(plc, work, '--period', 50, '--idle', 3600, '--console', console, scans=100) as served:
+        right = served.serves() and right
+        deaf = flood(console)
+        right = served.status() == 0 and served.out == 'scans 100\n' and right
+        deaf.close()
+    return right
+
+
+
+
+GATE = [an_operator_is_answered, an_operator_is_answered_over_crashes, no_commands_are_refused, an_operator_gives_way,
+        a_deaf_operator_is_let_go]
