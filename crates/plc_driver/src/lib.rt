@@ -19,8 +19,8 @@
 //! journal that it leaves goes on that with which it was started. Saves of its replicas that failed are tried again by
 //! `PatientStore` of vr_threads.
 //!
-//! Only tested: that the replicas of a group scan, crash and come back, and what clients see of it (`serve_rows`,
-//! `failing_rows` and `saving_rows` of `tests_threads`). Nothing says when a scan comes, or that one does.
+//! Only tested: that the replicas of a group scan, crash and come back, and what clients see of it
+//! (`tools/try-serve`). Nothing says when a scan comes, or that one does.
 #![tactic(auto)]
 
 mod crashes;

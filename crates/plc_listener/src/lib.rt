@@ -15,10 +15,10 @@
 //!
 //! Proved: each call is safe, and returns but for the waits that its bound allows; what fails is a device or memory.
 //!
-//! By its code alone, and tested through what is served (`serve_rows`, `failing_rows` and `console_rows` of
-//! `tests_threads`): that a connection gets a place that is free, or is closed unanswered or takes over the first one,
-//! that a session ends whose client is idle, sends a request too slowly or doesn't take its replies, and that `close`
-//! ends each session and each thread, and gives back each of the sessions.
+//! By its code alone, and tested through what is served (`tools/try-serve`): that a connection gets a place that is
+//! free, or is closed unanswered or takes over the first one, that a session ends whose client is idle, sends a request
+//! too slowly or doesn't take its replies, and that `close` ends each session and each thread, and gives back each of
+//! the sessions.
 #![tactic(auto)]
 
 mod connection;

@@ -10,8 +10,7 @@
 //! Proved: it ends well only after as many scans as are asked for, and with the line of a port on `err`, those of what
 //! changed, and nothing else; where it fails, with at most those.
 //!
-//! Tested: how threads, channels, sockets and locks are joined (`serve_rows`, `failing_rows` and `console_rows` of
-//! `tests_threads`).
+//! Tested: how threads, channels, sockets and locks are joined (`tools/try-serve`).
 #![tactic(auto)]
 
 mod node;

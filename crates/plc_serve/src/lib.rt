@@ -15,8 +15,8 @@
 //! text or of a directory that was used, and with `out` and `report` as they were; 2 only with a line that tells what
 //! failed (`specs/Serving`).
 //!
-//! Only tested: how threads, channels, sockets and locks are joined, and what a client sees of it (`serve_rows`,
-//! `failing_rows` and `console_rows` of `tests_threads`, `tools/try-serve`, `tools/try-clients`).
+//! Only tested: how threads, channels, sockets and locks are joined, and what a client sees of it
+//! (`tools/try-serve`, `tools/try-clients`).
 #![tactic(auto)]
 
 mod failing;

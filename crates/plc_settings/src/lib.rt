@@ -23,7 +23,7 @@
 //!
 //! Proved: that two settings are told to be equal only where they are. There is nothing else here to prove.
 //!
-//! Tests: `word_rows` of `tests_tool` have the settings that words come to.
+//! Tests: `words.rows` of `tests_rows` has the settings that words come to.
 #![tactic(auto)]
 
 use il_model::Budget;

@@ -1,10 +1,11 @@
 //! The commands of the program, with their arguments.
 
+use crate::form::{Form, arg};
 use crate::forms::VERSION;
 use crate::help;
 use crate::options::{
-    CHANGE, CHECK, CONSOLE_SOCKET, CRASH, DIRECTORY, IDLE, LISTED, PERIOD, REPORT, SCANS, STALE,
-    TIMEOUT, asked_commands, budget, changed, changed_listing, console, console_key, count,
+    CHANGE, CHECK, CONSOLE_SOCKET, CRASH, DIRECTORY, IDLE, LISTED, PERIOD, REPORT, SCANS, SOURCE,
+    STALE, TIMEOUT, asked_commands, budget, changed, changed_listing, console, console_key, count,
     directory, epoch, every, failures, field_status, file, flag, forget, formatted_source,
     group_file, links, machine, made_store, new_group, next_epoch, once, port, served_group,
     served_source, status, stop, text, trace, wait,
@@ -58,10 +59,22 @@ pub(crate) fn program<'a>(alloc: Global) -> Result<Command<'a>, AllocError> {
 
 fn commands<'a>(alloc: Global) -> Result<Vec<Command<'a>>, AllocError> {
     let mut commands = Vec::new(alloc);
+    let put = put_commands(alloc, &mut commands);
+    kept(commands, put)
+}
+
+/// A value, once what had to be done to it is done. Its type is a parameter: so what is checked of a `?` beside it says
+/// nothing of its parts.
+fn kept<T: Drop>(value: T, done: Result<(), AllocError>) -> Result<T, AllocError> {
+    done?;
+    Ok(value)
+}
+
+fn put_commands<'a>(alloc: Global, commands: &mut Vec<Command<'a>>) -> Result<(), AllocError> {
     for named in ALL {
         commands.push(command(alloc, named)?)?;
     }
-    Ok(commands)
+    Ok(())
 }
 
 /// A command with its arguments, in the order in which help has them.
@@ -124,182 +137,167 @@ fn help_of<'a>(named: Named) -> &'a str {
     }
 }
 
+/// The arguments of a command, in the order in which help has them.
 fn args_of<'a>(alloc: Global, named: Named) -> Result<Vec<Arg<'a>>, AllocError> {
+    let mut args = Vec::new(alloc);
+    let put = put_args(alloc, named, &mut args);
+    kept(args, put)
+}
+
+fn put_args<'a>(alloc: Global, named: Named, args: &mut Vec<Arg<'a>>) -> Result<(), AllocError> {
     match named {
-        Named::Asm => asm_args(alloc),
-        Named::List => list_args(alloc),
-        Named::Names => names_args(alloc),
-        Named::Diff => diff_args(alloc),
-        Named::Run => run_args(alloc),
-        Named::Sim => sim_args(alloc),
-        Named::Format => formatted_args(alloc),
-        Named::Show => show_args(alloc),
-        Named::Serve => serve_args(alloc),
-        Named::Ask => ask_args(alloc),
-        Named::Field => field_args(alloc),
+        Named::Asm => put_all(alloc, args, &asm_forms()),
+        Named::List => put_all(alloc, args, &list_forms()),
+        Named::Names => put_all(alloc, args, &[source()]),
+        Named::Diff => put_all(alloc, args, &diff_forms()),
+        Named::Run => put_all(alloc, args, &run_forms()),
+        Named::Sim => put_all(alloc, args, &sim_forms()),
+        Named::Format => put_all(alloc, args, &format_forms()),
+        Named::Show => put_all(alloc, args, &show_forms()),
+        Named::Serve => put_served(alloc, args),
+        Named::Ask => put_all(alloc, args, &ask_forms()),
+        Named::Field => put_all(alloc, args, &field_forms()),
     }
 }
 
-/// The first ones, and then the others.
-fn joined<'a>(
-    mut first: Vec<Arg<'a>>,
-    mut others: Vec<Arg<'a>>,
-) -> Result<Vec<Arg<'a>>, AllocError> {
-    first.append(&mut others)?;
-    Ok(first)
+/// Puts arguments of these forms.
+fn put_all<'a>(alloc: Global, args: &mut Vec<Arg<'a>>, forms: &[Form]) -> Result<(), AllocError> {
+    for form in forms {
+        args.push(arg(alloc, form)?)?;
+    }
+    Ok(())
 }
 
 /// The text of a program.
-fn source<'a>(alloc: Global) -> Arg<'a> {
-    file(alloc, "SOURCE").help("The program's text, in Instruction List")
+fn source() -> Form {
+    file(SOURCE).help("The program's text, in Instruction List")
 }
 
-fn asm_args<'a>(alloc: Global) -> Result<Vec<Arg<'a>>, AllocError> {
-    let image = file(alloc, "IMAGE").help("The file for the image");
-    Ok(Vec::from_array(alloc, [source(alloc), image])?)
+fn asm_forms() -> [Form; 2] {
+    [source(), file("IMAGE").help("The file for the image")]
 }
 
-fn list_args<'a>(alloc: Global) -> Result<Vec<Arg<'a>>, AllocError> {
-    let image = file(alloc, "IMAGE").help("The image, as asm writes it");
-    Ok(Vec::from_array(alloc, [image])?)
+fn list_forms() -> [Form; 1] {
+    [file("IMAGE").help("The image, as asm writes it")]
 }
 
-fn names_args<'a>(alloc: Global) -> Result<Vec<Arg<'a>>, AllocError> {
-    Ok(Vec::from_array(alloc, [source(alloc)])?)
+fn diff_forms() -> [Form; 2] {
+    [
+        file("OLD").help("The text of the program that runs"),
+        file("NEW").help("The text of the program to go on with"),
+    ]
 }
 
-fn diff_args<'a>(alloc: Global) -> Result<Vec<Arg<'a>>, AllocError> {
-    let old = file(alloc, "OLD").help("The text of the program that runs");
-    let new = file(alloc, "NEW").help("The text of the program to go on with");
-    Ok(Vec::from_array(alloc, [old, new])?)
+fn run_forms() -> [Form; 3] {
+    let commands = file("COMMANDS").help("The commands, in JSON");
+    [source(), commands, budget()]
 }
 
-fn run_args<'a>(alloc: Global) -> Result<Vec<Arg<'a>>, AllocError> {
-    let commands = file(alloc, "COMMANDS").help("The commands, in JSON");
-    Ok(Vec::from_array(alloc, [source(alloc), commands, budget(alloc)])?)
-}
-
-fn sim_args<'a>(alloc: Global) -> Result<Vec<Arg<'a>>, AllocError> {
-    let args = [
-        source(alloc),
-        file(alloc, "SCHEDULE").help("The schedule, in JSON"),
-        failures(alloc),
-        every(alloc, 0).help(
+fn sim_forms() -> [Form; 5] {
+    [
+        source(),
+        file("SCHEDULE").help("The schedule, in JSON"),
+        failures(),
+        every(0).help(
             "After how many commands a replica makes a checkpoint, 0 to 65535; 0 is never",
         ),
-        budget(alloc),
-    ];
-    Ok(Vec::from_array(alloc, args)?)
+        budget(),
+    ]
 }
 
-fn formatted_args<'a>(alloc: Global) -> Result<Vec<Arg<'a>>, AllocError> {
-    let store = store_args(alloc)?;
-    joined(store, epoch_args(alloc)?)
+/// For a new store; and then for a new group, and for a store that is put into another epoch.
+fn format_forms() -> [Form; 10] {
+    [
+        formatted_source(),
+        group_file(),
+        machine(),
+        made_store(),
+        wait(),
+        new_group(),
+        next_epoch(),
+        epoch(),
+        changed(),
+        forget(),
+    ]
 }
 
-/// For a new store.
-fn store_args<'a>(alloc: Global) -> Result<Vec<Arg<'a>>, AllocError> {
-    let source = formatted_source(alloc)?;
-    let machine = machine(alloc)?;
-    let store = made_store(alloc)?;
-    let wait = wait(alloc)?;
-    Ok(Vec::from_array(alloc, [source, group_file(alloc), machine, store, wait])?)
+fn show_forms() -> [Form; 3] {
+    [
+        file(DIRECTORY).help("The directory of the store"),
+        flag(LISTED).help("Prints the listing of the store's program"),
+        changed_listing(),
+    ]
 }
 
-/// For a new group, and for a store that is put into another epoch.
-fn epoch_args<'a>(alloc: Global) -> Result<Vec<Arg<'a>>, AllocError> {
-    let next = next_epoch(alloc)?;
-    let epoch = epoch(alloc)?;
-    let changed = changed(alloc)?;
-    let forget = forget(alloc)?;
-    Ok(Vec::from_array(alloc, [new_group(alloc), next, epoch, changed, forget])?)
-}
-
-fn show_args<'a>(alloc: Global) -> Result<Vec<Arg<'a>>, AllocError> {
-    let changed = changed_listing(alloc)?;
-    let directory = file(alloc, DIRECTORY).help("The directory of the store");
-    let listing = flag(alloc, LISTED).help("Prints the listing of the store's program");
-    Ok(Vec::from_array(alloc, [directory, listing, changed])?)
-}
-
-fn serve_args<'a>(alloc: Global) -> Result<Vec<Arg<'a>>, AllocError> {
-    let served = served_args(alloc)?;
-    let scanned = joined(served, scan_args(alloc)?)?;
-    joined(scanned, door_args(alloc)?)
+fn put_served<'a>(alloc: Global, args: &mut Vec<Arg<'a>>) -> Result<(), AllocError> {
+    put_all(alloc, args, &served_forms())?;
+    put_all(alloc, args, &scan_forms())?;
+    put_all(alloc, args, &door_forms())
 }
 
 /// What is served, and where its stores are.
-fn served_args<'a>(alloc: Global) -> Result<Vec<Arg<'a>>, AllocError> {
-    let source = served_source(alloc)?;
-    let group = served_group(alloc)?;
-    let trace = trace(alloc)?;
-    Ok(Vec::from_array(alloc, [source, group, trace, directory(alloc)])?)
+fn served_forms() -> [Form; 4] {
+    [served_source(), served_group(), trace(), directory()]
 }
 
 /// How it's served.
-fn scan_args<'a>(alloc: Global) -> Result<Vec<Arg<'a>>, AllocError> {
-    let args = [
-        count(alloc, SCANS, "N").help(
+fn scan_forms() -> [Form; 10] {
+    [
+        count(SCANS, "N").help(
             "After how many scans it ends; without it, it goes on until it's interrupted",
         ),
-        failures(alloc),
-        every(alloc, 1).help("After how many commands a replica makes a checkpoint, 1 to 65535"),
-        port(alloc),
-        count(alloc, PERIOD, "MS")
+        failures(),
+        every(1).help("After how many commands a replica makes a checkpoint, 1 to 65535"),
+        port(),
+        count(PERIOD, "MS")
             .default_value("100")
             .help("Milliseconds from scan to scan"),
-        count(alloc, IDLE, "S").default_value("300").help(
+        count(IDLE, "S").default_value("300").help(
             "Seconds until a client without a whole request is disconnected",
         ),
-        budget(alloc),
-        links(alloc),
-        count(alloc, CRASH, "K").help("Crashes a replica after every K scans, and restarts it"),
-        text(alloc, REPORT, "FILE").help("The file for a report at the end"),
-    ];
-    Ok(Vec::from_array(alloc, args)?)
+        budget(),
+        links(),
+        count(CRASH, "K").help("Crashes a replica after every K scans, and restarts it"),
+        text(REPORT, "FILE").help("The file for a report at the end"),
+    ]
 }
 
 /// How operators come to it, and what is shown of it.
-fn door_args<'a>(alloc: Global) -> Result<Vec<Arg<'a>>, AllocError> {
-    let console = console(alloc)?;
-    let args = [
-        console,
-        text(alloc, CONSOLE_SOCKET, "PATH").help(
+fn door_forms() -> [Form; 5] {
+    [
+        console(),
+        text(CONSOLE_SOCKET, "PATH").help(
             "The socket of an operator's console, in place of a port",
         ),
-        console_key(alloc),
-        count(alloc, STALE, "MS").help(
+        console_key(),
+        count(STALE, "MS").help(
             "Milliseconds until outputs aren't shown any more; without it they always are",
         ),
-        status(alloc),
-    ];
-    Ok(Vec::from_array(alloc, args)?)
+        status(),
+    ]
 }
 
-fn ask_args<'a>(alloc: Global) -> Result<Vec<Arg<'a>>, AllocError> {
-    let commands = asked_commands(alloc)?;
-    let args = [
-        file(alloc, "CONSOLE").help(
+fn ask_forms() -> [Form; 5] {
+    [
+        file("CONSOLE").help(
             "Its port of 127.0.0.1, its address with a port, or its socket's path",
         ),
-        commands,
-        text(alloc, CHANGE, "SOURCE").help(
-            "The text of the program to go on with, in place of COMMANDS",
-        ),
-        console_key(alloc),
-        count(alloc, TIMEOUT, "S")
+        asked_commands(),
+        text(CHANGE, SOURCE).help("The text of the program to go on with, in place of COMMANDS"),
+        console_key(),
+        count(TIMEOUT, "S")
             .default_value("60")
             .help("Seconds until an answer is given up"),
-    ];
-    Ok(Vec::from_array(alloc, args)?)
+    ]
 }
 
 /// What is carried, and how far.
-fn field_args<'a>(alloc: Global) -> Result<Vec<Arg<'a>>, AllocError> {
-    let once = once(alloc)?;
-    let stop = stop(alloc)?;
-    let status = field_status(alloc)?;
-    let field = file(alloc, "FIELD").help("The devices, and what goes where");
-    let check = flag(alloc, CHECK).help("Prints what goes where, and connects to nothing");
-    Ok(Vec::from_array(alloc, [field, check, once, stop, status])?)
+fn field_forms() -> [Form; 5] {
+    [
+        file("FIELD").help("The devices, and what goes where"),
+        flag(CHECK).help("Prints what goes where, and connects to nothing"),
+        once(),
+        stop(),
+        field_status(),
+    ]
 }

@@ -170,7 +170,9 @@ pub fn read_words<'a, S: AsStr>(alloc: Global, given: &'a [S]) -> Result<Words<'
         Ok(matches) => matches,
         Err(error) => return Err(WordsError::of(alloc, &error)),
     };
-    match form_of(alloc, &matches)? {
+    let form = form_of(alloc, &matches);
+    drop(matches);
+    match form? {
         Some(form) => Ok(form),
         None => Err(WordsError::Bad(String::from_str(alloc, NO_FORM)?)),
     }

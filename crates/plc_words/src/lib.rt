@@ -11,13 +11,14 @@
 //! work (`tell_words`). What words mean is `clap`'s, by that crate's statements; no clause here says which words give
 //! which form.
 //!
-//! Only tested: the forms with their options and defaults, words that are refused, and the usage lines (`word_rows` of
-//! `tests_tool`). Neither: the texts of help, which say by hand what `docs/FAULTS.md` says.
+//! Only tested: the forms with their options and defaults (`words.rows` of `tests_rows`), and words that are refused and
+//! the usage lines (rows of `tools/words`). Neither: the texts of help, which say by hand what `docs/FAULTS.md` says.
 #![tactic(auto)]
 
 mod commands;
 mod console;
 mod error;
+mod form;
 mod forms;
 mod help;
 mod operators;

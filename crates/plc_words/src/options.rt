@@ -1,8 +1,6 @@
 //! The options of the commands: their words, and what each takes.
 
-use clap::builder::ValueParser;
-use clap::{Arg, ArgAction};
-use std::alloc::{AllocError, Global};
+use crate::form::{Form, Kind};
 
 /// The word of the option `--budget`.
 pub(crate) const BUDGET: &str = "budget";
@@ -27,7 +25,7 @@ pub(crate) const LINKS: &str = "links";
 
 pub(crate) const TCP: &str = "tcp";
 
-pub(crate) const KINDS_OF_LINKS: [&str; 2] = ["channel", TCP];
+const KINDS_OF_LINKS: &[&str] = &["channel", TCP];
 
 /// The word of the option `--period`.
 pub(crate) const PERIOD: &str = "period";
@@ -93,7 +91,7 @@ pub(crate) const FORGET: &str = "forget";
 pub(crate) const LISTED: &str = "listing";
 
 /// What a group's file has for its machines, or they haven't.
-pub(crate) const SETTINGS: [&str; 15] = [
+const SETTINGS: &[&str] = &[
     SCANS,
     FAILURES,
     EVERY,
@@ -124,10 +122,25 @@ pub(crate) const ONCE: &str = "once";
 pub(crate) const STOP: &str = "stop";
 
 /// By one of these something else than a new store is made.
-const NO_NEW_STORE: [&str; 3] = [NEW_GROUP, NEXT_EPOCH, EPOCH];
+const NO_NEW_STORE: &[&str] = &[NEW_GROUP, NEXT_EPOCH, EPOCH];
 
 /// Beside one of these no store is put into another epoch.
-const NO_EPOCH: [&str; 3] = [NEW_GROUP, MACHINE, WAIT];
+const NO_EPOCH: &[&str] = &[NEW_GROUP, MACHINE, WAIT];
+
+/// Beside one of these no store is put into the next epoch.
+const NO_NEXT_EPOCH: &[&str] = &[NEW_GROUP, EPOCH];
+
+/// Beside one of these an epoch begins with no changed program.
+const NO_CHANGED: &[&str] = &[NEW_GROUP, MACHINE, WAIT, SOURCE];
+
+/// Beside one of these no other `plc field` is asked to end.
+const NO_STOP: &[&str] = &[CHECK, ONCE];
+
+/// Beside one of these nothing is carried without an end.
+const NO_STATUS: &[&str] = &[CHECK, ONCE, STOP];
+
+/// The text of a program, by its place.
+pub(crate) const SOURCE: &str = "SOURCE";
 
 /// The greatest number of a port.
 const MOST_PORT: i64 = 65_535;
@@ -135,237 +148,212 @@ const MOST_PORT: i64 = 65_535;
 /// The greatest number of 32 bits.
 const MOST: i64 = 4_294_967_295;
 
-/// An argument by its place. It's wanted.
-pub(crate) fn file<'a>(alloc: Global, name: &'a str) -> Arg<'a> {
-    Arg::new(alloc, name).required(true).action(ArgAction::Set)
+/// A file by its place. It's wanted.
+pub(crate) fn file(name: &'static str) -> Form {
+    Form::new(name, Kind::File).wanted()
 }
 
 /// An option without a value.
-pub(crate) fn flag<'a>(alloc: Global, word: &'a str) -> Arg<'a> {
-    Arg::new(alloc, word).long(word).action(ArgAction::SetTrue)
+pub(crate) fn flag(word: &'static str) -> Form {
+    Form::new(word, Kind::Flag)
 }
 
 /// An option with a text, which is refused where it's given twice or empty.
-pub(crate) fn text<'a>(alloc: Global, word: &'a str, value: &'a str) -> Arg<'a> {
-    Arg::new(alloc, word)
-        .long(word)
-        .value_name(value)
-        .value_parser(ValueParser::NonEmptyString)
+pub(crate) fn text(word: &'static str, value: &'static str) -> Form {
+    Form::new(word, Kind::Text(value))
 }
 
 /// An option with a number, which is refused where it's given twice, or is none from `least` to `most`.
-fn number<'a>(alloc: Global, word: &'a str, value: &'a str, least: i64, most: i64) -> Arg<'a> {
-    Arg::new(alloc, word)
-        .long(word)
-        .value_name(value)
-        .value_parser(ValueParser::Signed(least, most))
+fn number(word: &'static str, value: &'static str, least: i64, most: i64) -> Form {
+    Form::new(word, Kind::Number(value, least, most))
 }
 
 /// An option with a number of 32 bits above 0.
-pub(crate) fn count<'a>(alloc: Global, word: &'a str, value: &'a str) -> Arg<'a> {
-    number(alloc, word, value, 1, MOST)
+pub(crate) fn count(word: &'static str, value: &'static str) -> Form {
+    number(word, value, 1, MOST)
 }
 
 /// An option with the number of a port.
-fn numbered_port<'a>(alloc: Global, word: &'a str) -> Arg<'a> {
-    number(alloc, word, "P", 1, MOST_PORT)
+fn numbered_port(word: &'static str) -> Form {
+    number(word, "P", 1, MOST_PORT)
 }
 
-pub(crate) fn budget<'a>(alloc: Global) -> Arg<'a> {
-    number(alloc, BUDGET, "B", 1, 1_000_000)
+pub(crate) fn budget() -> Form {
+    number(BUDGET, "B", 1, 1_000_000)
         .default_value("10000")
         .help("How many instructions a scan may perform, 1 to 1000000")
 }
 
-pub(crate) fn failures<'a>(alloc: Global) -> Arg<'a> {
-    number(alloc, FAILURES, "F", 1, 3)
+pub(crate) fn failures() -> Form {
+    number(FAILURES, "F", 1, 3)
         .default_value("1")
         .help("How many of the 2F+1 replicas may fail, 1 to 3")
 }
 
 /// From `least` on. A controller that is served has to make checkpoints: without them its log, and so each message of a
 /// view change, would grow without an end.
-pub(crate) fn every<'a>(alloc: Global, least: i64) -> Arg<'a> {
-    number(alloc, EVERY, "E", least, 65_535).default_value("64")
+pub(crate) fn every(least: i64) -> Form {
+    number(EVERY, "E", least, 65_535).default_value("64")
 }
 
 /// The directories of stores are wanted.
-pub(crate) fn directory<'a>(alloc: Global) -> Arg<'a> {
-    text(alloc, STORE, "DIR")
-        .required(true)
-        .action(ArgAction::Append)
-        .help("The directory for the stores of the replicas; once, or for each of them")
+pub(crate) fn directory() -> Form {
+    Form::new(STORE, Kind::Texts("DIR")).wanted().help(
+        "The directory for the stores of the replicas; once, or for each of them",
+    )
 }
 
 /// The file of a group is wanted.
-pub(crate) fn group_file<'a>(alloc: Global) -> Arg<'a> {
-    text(alloc, GROUP, "GROUP")
-        .required(true)
-        .help("The file of the group")
+pub(crate) fn group_file() -> Form {
+    text(GROUP, "GROUP").wanted().help("The file of the group")
 }
 
 /// The text is wanted where no group is given, and refused where one is.
-pub(crate) fn served_source<'a>(alloc: Global) -> Result<Arg<'a>, AllocError> {
-    Arg::new(alloc, "SOURCE")
-        .action(ArgAction::Set)
+pub(crate) fn served_source() -> Form {
+    Form::new(SOURCE, Kind::File)
         .help("The program's text, in Instruction List")
-        .required_unless_present(GROUP)?
-        .conflicts_with(GROUP)
+        .wanted_unless(&[GROUP])
+        .refused_beside(&[GROUP])
 }
 
 /// The option is refused beside what the group's file has.
-pub(crate) fn served_group<'a>(alloc: Global) -> Result<Arg<'a>, AllocError> {
-    let settings = SETTINGS;
-    text(alloc, GROUP, "GROUP")
+pub(crate) fn served_group() -> Form {
+    text(GROUP, "GROUP")
         .help("The file of a group, in place of SOURCE: one machine of it is served")
-        .conflicts_with_all(&settings)
+        .refused_beside(SETTINGS)
 }
 
 /// The option is refused beside a text.
-pub(crate) fn trace<'a>(alloc: Global) -> Result<Arg<'a>, AllocError> {
-    text(alloc, TRACE, "FILE")
+pub(crate) fn trace() -> Form {
+    text(TRACE, "FILE")
         .help("Where what the machine releases is written, for trials")
-        .conflicts_with("SOURCE")
+        .refused_beside(&[SOURCE])
 }
 
 /// The text is wanted for a new store, and refused for a new group.
-pub(crate) fn formatted_source<'a>(alloc: Global) -> Result<Arg<'a>, AllocError> {
-    let others = NO_NEW_STORE;
-    Arg::new(alloc, "SOURCE")
-        .action(ArgAction::Set)
+pub(crate) fn formatted_source() -> Form {
+    Form::new(SOURCE, Kind::File)
         .help("The program's text, in Instruction List")
-        .required_unless_present_any(&others)?
-        .conflicts_with(NEW_GROUP)
+        .wanted_unless(NO_NEW_STORE)
+        .refused_beside(&[NEW_GROUP])
 }
 
 /// The option is wanted for a new store, and refused for one that is there.
-pub(crate) fn machine<'a>(alloc: Global) -> Result<Arg<'a>, AllocError> {
-    let others = NO_NEW_STORE;
-    number(alloc, MACHINE, "I", 0, 6)
+pub(crate) fn machine() -> Form {
+    number(MACHINE, "I", 0, 6)
         .help("The machine's place in GROUP, counted from 0")
-        .required_unless_present_any(&others)?
-        .conflicts_with_all(&others)
+        .wanted_unless(NO_NEW_STORE)
+        .refused_beside(NO_NEW_STORE)
 }
 
 /// The option is wanted but for a new group, and refused for that.
-pub(crate) fn made_store<'a>(alloc: Global) -> Result<Arg<'a>, AllocError> {
-    text(alloc, STORE, "DIR")
+pub(crate) fn made_store() -> Form {
+    text(STORE, "DIR")
         .help("The directory of the store")
-        .required_unless_present(NEW_GROUP)?
-        .conflicts_with(NEW_GROUP)
+        .wanted_unless(&[NEW_GROUP])
+        .refused_beside(&[NEW_GROUP])
 }
 
 /// The option is refused where a store is there already.
-pub(crate) fn wait<'a>(alloc: Global) -> Result<Arg<'a>, AllocError> {
-    let others = NO_NEW_STORE;
-    flag(alloc, WAIT)
+pub(crate) fn wait() -> Form {
+    flag(WAIT)
         .help("The machine's disk was lost: it waits for an epoch of its group")
-        .conflicts_with_all(&others)
+        .refused_beside(NO_NEW_STORE)
 }
 
-pub(crate) fn new_group<'a>(alloc: Global) -> Arg<'a> {
-    flag(alloc, NEW_GROUP).help("Draws the identity of a new group into GROUP")
+pub(crate) fn new_group() -> Form {
+    flag(NEW_GROUP).help("Draws the identity of a new group into GROUP")
 }
 
 /// The option is refused beside another one that says what is done.
-pub(crate) fn next_epoch<'a>(alloc: Global) -> Result<Arg<'a>, AllocError> {
-    let others = [NEW_GROUP, EPOCH];
-    flag(alloc, NEXT_EPOCH)
+pub(crate) fn next_epoch() -> Form {
+    flag(NEXT_EPOCH)
         .help("Puts the store that is there into the next epoch")
-        .conflicts_with_all(&others)
+        .refused_beside(NO_NEXT_EPOCH)
 }
 
 /// The option is refused beside another one that says what is done.
-pub(crate) fn epoch<'a>(alloc: Global) -> Result<Arg<'a>, AllocError> {
-    count(alloc, EPOCH, "N")
+pub(crate) fn epoch() -> Form {
+    count(EPOCH, "N")
         .help("Puts the store that is there into epoch N: the same N at each machine, as 20261128")
-        .conflicts_with(NEW_GROUP)
+        .refused_beside(&[NEW_GROUP])
 }
 
 /// The option is refused beside a text, and where no store is put into another epoch.
-pub(crate) fn changed<'a>(alloc: Global) -> Result<Arg<'a>, AllocError> {
-    let others = NO_EPOCH;
-    flag(alloc, CHANGED)
+pub(crate) fn changed() -> Form {
+    flag(CHANGED)
         .help("That epoch begins with the program to which the store's was changed")
-        .conflicts_with_all(&others)?
-        .conflicts_with("SOURCE")
+        .refused_beside(NO_CHANGED)
 }
 
 /// The option is refused where no store is put into another epoch.
-pub(crate) fn forget<'a>(alloc: Global) -> Result<Arg<'a>, AllocError> {
-    let others = NO_EPOCH;
-    flag(alloc, FORGET)
+pub(crate) fn forget() -> Form {
+    flag(FORGET)
         .help("What the group has in memory may be lost")
-        .conflicts_with_all(&others)
+        .refused_beside(NO_EPOCH)
 }
 
 /// The option is refused where no listing is printed.
-pub(crate) fn changed_listing<'a>(alloc: Global) -> Result<Arg<'a>, AllocError> {
-    flag(alloc, CHANGED)
+pub(crate) fn changed_listing() -> Form {
+    flag(CHANGED)
         .help("Prints that of the program to which it was changed")
-        .requires_arg(LISTED)
+        .only_beside(LISTED)
 }
 
 /// The port of 127.0.0.1 for Modbus clients.
-pub(crate) fn port<'a>(alloc: Global) -> Arg<'a> {
-    numbered_port(alloc, PORT)
+pub(crate) fn port() -> Form {
+    numbered_port(PORT)
         .default_value("5020")
         .help("The port of 127.0.0.1, 1 to 65535")
 }
 
 /// The option is refused where it's given twice, or is none of its two words.
-pub(crate) fn links<'a>(alloc: Global) -> Arg<'a> {
-    Arg::new(alloc, LINKS)
-        .long(LINKS)
-        .value_name("KIND")
-        .value_parser(ValueParser::Names(&KINDS_OF_LINKS))
+pub(crate) fn links() -> Form {
+    Form::new(LINKS, Kind::OneOf("KIND", KINDS_OF_LINKS))
         .default_value(TCP)
         .help("How messages go from replica to replica")
 }
 
 /// The option is refused beside a socket.
-pub(crate) fn console<'a>(alloc: Global) -> Result<Arg<'a>, AllocError> {
-    numbered_port(alloc, CONSOLE)
+pub(crate) fn console() -> Form {
+    numbered_port(CONSOLE)
         .help("The port of an operator's console, 1 to 65535")
-        .conflicts_with(CONSOLE_SOCKET)
+        .refused_beside(&[CONSOLE_SOCKET])
 }
 
-pub(crate) fn console_key<'a>(alloc: Global) -> Arg<'a> {
-    text(alloc, CONSOLE_KEY, "FILE").help("The file of the word that the console asks for first")
+pub(crate) fn console_key() -> Form {
+    text(CONSOLE_KEY, "FILE").help("The file of the word that the console asks for first")
 }
 
-pub(crate) fn status<'a>(alloc: Global) -> Arg<'a> {
-    text(alloc, STATUS, "[ADDR:]P").help(
+pub(crate) fn status() -> Form {
+    text(STATUS, "[ADDR:]P").help(
         "The port of a page for browsers and of figures for Prometheus, 1 to 65535",
     )
 }
 
 /// The file of commands is left out where the program is to be changed.
-pub(crate) fn asked_commands<'a>(alloc: Global) -> Result<Arg<'a>, AllocError> {
-    Arg::new(alloc, "COMMANDS")
-        .action(ArgAction::Set)
+pub(crate) fn asked_commands() -> Form {
+    Form::new("COMMANDS", Kind::File)
         .help("The commands, in JSON; - is standard input")
-        .required_unless_present(CHANGE)?
-        .conflicts_with(CHANGE)
+        .wanted_unless(&[CHANGE])
+        .refused_beside(&[CHANGE])
 }
 
 /// The option is refused where nothing is carried.
-pub(crate) fn once<'a>(alloc: Global) -> Result<Arg<'a>, AllocError> {
-    flag(alloc, ONCE)
+pub(crate) fn once() -> Form {
+    flag(ONCE)
         .help("Ends once all was read and written, and prints that; status 1: something was lost")
-        .conflicts_with(CHECK)
+        .refused_beside(&[CHECK])
 }
 
 /// The option is refused beside another one that says what is done.
-pub(crate) fn stop<'a>(alloc: Global) -> Result<Arg<'a>, AllocError> {
-    let others = [CHECK, ONCE];
-    flag(alloc, STOP)
+pub(crate) fn stop() -> Form {
+    flag(STOP)
         .help("Asks the plc field that runs FIELD to end, and waits until it has")
-        .conflicts_with_all(&others)
+        .refused_beside(NO_STOP)
 }
 
 /// The option is refused where it isn't carried without an end.
-pub(crate) fn field_status<'a>(alloc: Global) -> Result<Arg<'a>, AllocError> {
-    let others = [CHECK, ONCE, STOP];
-    status(alloc).conflicts_with_all(&others)
+pub(crate) fn field_status() -> Form {
+    status().refused_beside(NO_STATUS)
 }

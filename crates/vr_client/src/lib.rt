@@ -18,8 +18,7 @@
 //! likewise. The answer is that of the first REPLY with the number that waits, whatever else comes, and nothing waits
 //! after it. A `RetryTimer` is due exactly where a period went by since the request was sent last.
 //!
-//! Tests: `driver_rows` of `tests_parts` goes through the steps of the client that submits scans. Nothing rests on them
-//! alone.
+//! Tests: the drivers of machines in `drivers.rows` of `tests_bytes` go through its steps. Nothing rests on them alone.
 #![tactic(auto)]
 
 mod client;

@@ -23,9 +23,9 @@
 //! `laws_threads`.
 //!
 //! Only tested: that replicas run at once, that a group over channels answers, that one which was started before
-//! recovers, that nobody waits for a disk that hangs (`cluster_rows` of `tests_threads`), stores on real files, and
-//! that a file that was taken away is put back (`store_rows`). No contract says that a channel hands out what was sent,
-//! or that a disk keeps what was flushed.
+//! recovers (`cluster_rows` of `tests_threads`), that nobody waits for a disk that hangs (`tools/try-serve`), stores on
+//! real files, and that a file that was taken away is put back (`store_rows`). No contract says that a channel hands out
+//! what was sent, or that a disk keeps what was flushed.
 #![tactic(auto)]
 
 mod channels;

@@ -18,8 +18,8 @@
 //! trace is the report of a run of the events by new replicas, with no premise on members left, and the report explains
 //! the run. `proofs/WorkedHistory` computes the first definition, and shows a trace that is none.
 //!
-//! Tests (nothing rests on them alone): a run of 200 scans with two view changes, a crash and a recovery stands in
-//! `tests_tool` (`world_rows`), for checkpoints never, after every command and after every 64.
+//! Tests (nothing rests on them alone): a run of 200 scans with two view changes, a crash and a recovery is the row of
+//! `long_schedule.rows` (`tests_rows`), for checkpoints never, after every command and after every 64.
 #![tactic(auto)]
 
 mod run;
