@@ -1,6 +1,6 @@
 use Rattle.std.proofs.Common.{◌≡◌, ℕ, true, false, List, refl}
 use Rattle.std.specs.Prelude.{◌^◌, slice_index}
-use Rattle.il_model.specs.Values.{is_within}
+use Rattle.il_values.specs.Values.{is_within}
 use Rattle.ctl_blocks.specs.declared.counter.CounterState.{CounterState}
 use Rattle.ctl_blocks.specs.declared.counter.CtudState.{CtudState}
 use Rattle.ctl_blocks.specs.Words.{has_bit, high_of, low_of, int_or_zero}

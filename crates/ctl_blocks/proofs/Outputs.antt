@@ -3,11 +3,11 @@ use Rattle.std.specs.Prelude.{List, [], ◌∷◌, map, None, slice_get, option_
 use Rattle.std.proofs.Math.ListN.{drop}
 use Rattle.std.proofs.lemmas.Option.{slice_get-map}
 use Rattle.std.proofs.lemmas.Bool.{ltb-false}
-use Rattle.il_model.specs.declared.value.Ty.{Ty}
-use Rattle.il_model.specs.declared.value.Value.{Value}
+use Rattle.il_values.specs.declared.value.Ty.{Ty}
+use Rattle.il_values.specs.declared.value.Value.{Value}
 use Rattle.il_model.specs.declared.kind.Field.{Field}
 use Rattle.il_model.specs.Kinds.{kind_fields, field_type}
-use Rattle.il_model.specs.Values.{ty_of}
+use Rattle.il_values.specs.Values.{ty_of}
 use Rattle.ctl_blocks.specs.declared.block.Block.{Block}
 use Rattle.ctl_blocks.specs.declared.block.Block.TheVariants as blocks
 use Rattle.ctl_blocks.specs.Blocks.{kind_of, outputs_of, output_field, output_value}

@@ -3,7 +3,7 @@ use Rattle.std.specs.Prelude.{ℤ, pos, negsuc, [], ◌∷◌, length}
 use Rattle.std.specs.Int.{cast_unsigned, cast_signed, w32}
 use Rattle.std.proofs.lemmas.Int.{ints}
 use Rattle.std.proofs.lemmas.Bool.{ltb-true, lt-ltb}
-use Rattle.il_model.specs.Values.{is_within}
+use Rattle.il_values.specs.Values.{is_within}
 use Rattle.ctl_blocks.specs.Words.{bit, bits_number, joined_halves, has_bit, high_of, low_of, int_or_zero}
 
 half_back : (z : ℤ) → is_within (2 ^ 31) z ≡ true → (cast_signed w32 (cast_unsigned w32 z) ≡ z) × (cast_unsigned w32 z < 4294967296)

@@ -2,7 +2,7 @@ use Rattle.std.proofs.Common.{◌≡◌, ℕ, ◌+◌, ◌-◌, ◌<◌, ◌≤�
 use Rattle.std.specs.Prelude.{ℤ, pos, ◌&&◌, ◌||◌, ◌^◌, not, nat_lt, nat_eq, slice_index}
 use Rattle.std.proofs.lemmas.Bool.{ltb-true, lt-ltb, le-leb}
 use Rattle.std.proofs.Math.Nat.{min-le_left, min-le_right}
-use Rattle.il_model.specs.Values.{is_within}
+use Rattle.il_values.specs.Values.{is_within}
 use Rattle.ctl_blocks.specs.declared.timer.TimerState.{TimerState}
 use Rattle.ctl_blocks.specs.Words.{has_bit, high_of, low_of}
 use Rattle.ctl_blocks.specs.Timers.{milliseconds, elapsed_time, resting_timer, running_pulse, pulse_after, is_up_to, fits_timer, tp_holds, timer_words}

@@ -3,8 +3,8 @@
 use Rattle.std.specs.Prelude.{ℕ, Bool, true, false, not, ◌&&◌, List, [], ◌∷◌, ℤ, pos, negsuc, ◌+ℤ◌, ◌-ℤ◌, ◌^◌}
 use Rattle.std.specs.Prelude.{if◌then◌else◌}
 use Rattle.std.specs.Int.Signed.{lt_z}
-use Rattle.il_model.specs.Values.{is_within}
-use Rattle.il_model.specs.Operators.{same_truth}
+use Rattle.il_values.specs.Values.{is_within}
+use Rattle.il_values.specs.Operators.{same_truth}
 use Rattle.ctl_blocks.specs.Words.{saved_words, is_zero}
 use Rattle.ctl_blocks.specs.declared.counter.CounterState.{CounterState}
 use Rattle.ctl_blocks.specs.declared.counter.CounterOut.{CounterOut}

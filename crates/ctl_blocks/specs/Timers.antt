@@ -3,8 +3,8 @@
 -- An edge is IN that is TRUE and was FALSE at the last call, a fall is IN that is FALSE and was TRUE.
 use Rattle.std.specs.Prelude.{ℕ, ◌+◌, ◌-◌, ◌^◌, min, Bool, true, false, not, ◌&&◌, ◌||◌, List, [], ◌∷◌, ℤ, pos, negsuc}
 use Rattle.std.specs.Prelude.{nat_le, nat_lt, nat_eq, if◌then◌else◌}
-use Rattle.il_model.specs.Values.{is_within}
-use Rattle.il_model.specs.Operators.{same_truth}
+use Rattle.il_values.specs.Values.{is_within}
+use Rattle.il_values.specs.Operators.{same_truth}
 use Rattle.ctl_blocks.specs.Words.{saved_words, is_zero}
 use Rattle.ctl_blocks.specs.declared.timer.TimerState.{TimerState}
 use Rattle.ctl_blocks.specs.declared.timer.TimerIn.{TimerIn}

@@ -2,7 +2,7 @@
 use Rattle.std.specs.Prelude.{ℕ, ◌+◌, ◌*◌, ◌%◌, ◌/◌, ◌^◌, Bool, true, false, List, [], ◌∷◌, ℤ, pos, negsuc, nat_eq}
 use Rattle.std.specs.Prelude.{if◌then◌else◌}
 use Rattle.std.specs.Int.{cast_unsigned, cast_signed, w32}
-use Rattle.il_model.specs.Values.{is_within}
+use Rattle.il_values.specs.Values.{is_within}
 
 abbrev pub bit : Bool → ℕ
 bit true = 1

@@ -2,7 +2,7 @@
 
 ghost use Rattle.std.specs.Prelude.{◌≡◌, true, ℕ, List, Option, Some, IfSome, slice_get, option_map};
 ghost use Rattle.il_model.specs.Kinds.{field_type, input_count};
-ghost use Rattle.il_model.specs.Values.{ty_of};
+ghost use Rattle.il_values.specs.Values.{ty_of};
 ghost use Rattle.ctl_blocks.specs.declared.block.Block.{Block};
 ghost use Rattle.ctl_blocks.specs.Blocks.{bool_of, int_of, time_of, sr_inputs, rs_inputs, edge_inputs, ctu_inputs};
 ghost use Rattle.ctl_blocks.specs.Blocks.{ctd_inputs, ctud_inputs, timer_inputs, bistable_values, edge_values};

@@ -4,9 +4,9 @@ use Rattle.std.specs.Prelude.{ℤ, nat_le}
 use Rattle.std.specs.Option.{option_and_then}
 use Rattle.std.proofs.lemmas.Bool.{le-leb, lt-ltb}
 use Rattle.std.proofs.lemmas.List.{append-nil}
-use Rattle.il_model.specs.declared.value.Ty.TheVariants as types
-use Rattle.il_model.specs.declared.value.Value.{Value}
-use Rattle.il_model.specs.declared.value.Value.TheVariants as values
+use Rattle.il_values.specs.declared.value.Ty.TheVariants as types
+use Rattle.il_values.specs.declared.value.Value.{Value}
+use Rattle.il_values.specs.declared.value.Value.TheVariants as values
 use Rattle.il_model.specs.declared.program.Area.{Area}
 use Rattle.il_model.specs.declared.program.Area.TheVariants as areas
 use Rattle.il_model.specs.declared.program.Loc.TheVariants.{Bit, Word}

@@ -6,7 +6,7 @@ use Rattle.std.specs.Str.{bytes_eq}
 use Rattle.std.proofs.lemmas.Bool.{eqb-true, ltb-true}
 use Rattle.std.proofs.lemmas.List.{reverse-reverse}
 use Rattle.std.proofs.lemmas.Slice.Eq.{bytes_eq-Decides}
-use Rattle.il_model.specs.declared.value.Value.{Value}
+use Rattle.il_values.specs.declared.value.Value.{Value}
 use Rattle.il_model.specs.declared.cells.Cells.{Cells}
 use Rattle.il_model.specs.declared.fetched.Deferred.{Deferred}
 use Rattle.il_model.specs.declared.snapshot.ForcedSlot.{ForcedSlot}
@@ -15,7 +15,7 @@ use Rattle.il_model.specs.declared.snapshot.SavedPhase.TheVariants as saved_phas
 use Rattle.il_model.specs.Snapshots.{SavedBlock, SavedController}
 use Rattle.il_model.specs.Program.{Program}
 use Rattle.il_model.specs.Image.{spelling}
-use Rattle.il_model.specs.Values.{ty_of}
+use Rattle.il_values.specs.Values.{ty_of}
 use Rattle.il_model.specs.Resolved.{is_labelled}
 use Rattle.il_model.specs.Typing.{Shape, shape_on_arrival}
 use Rattle.il_model.specs.Checking.{shape_at}

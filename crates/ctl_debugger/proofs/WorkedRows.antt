@@ -1,11 +1,11 @@
 -- Worked rows of scans and of the debugger, by computing the command table.
 use Rattle.std.proofs.Common.{◌≡◌, ◌≤◌, ℕ, zero, suc, Bool, true, false, List, [], ◌∷◌, replicate, None, Some, Result, Ok, Err, refl, sym, ap, ◌∙◌, arith}
 use Rattle.std.specs.Prelude.{pos, slice_set, codes}
-use Rattle.il_model.specs.declared.value.Value.TheVariants as values
-use Rattle.il_model.specs.declared.value.Ty.TheVariants as types
-use Rattle.il_model.specs.declared.value.Stop.TheVariants as stops
-use Rattle.il_model.specs.declared.op.Op.{Op}
-use Rattle.il_model.specs.declared.op.Op.TheVariants as ops
+use Rattle.il_values.specs.declared.value.Value.TheVariants as values
+use Rattle.il_values.specs.declared.value.Ty.TheVariants as types
+use Rattle.il_values.specs.declared.value.Stop.TheVariants as stops
+use Rattle.il_values.specs.declared.op.Op.{Op}
+use Rattle.il_values.specs.declared.op.Op.TheVariants as ops
 use Rattle.il_model.specs.declared.program.Instr.{Instr}
 use Rattle.il_model.specs.declared.program.Side.TheVariants as sides
 use Rattle.il_model.specs.declared.kind.BlockKind.TheVariants as kinds
@@ -21,7 +21,8 @@ use Rattle.il_model.specs.declared.command.Answer.TheVariants as answers
 use Rattle.il_model.specs.declared.command.Refusal.TheVariants as refusals
 use Rattle.il_model.specs.Locations.{clear_inputs, safe_image}
 use Rattle.il_model.specs.Program.{Program}
-use Rattle.il_model.specs.Words.{is_well_spelled, plain, spells, look, mnemonic_of}
+use Rattle.il_model.specs.Words.{is_well_spelled, plain, look, mnemonic_of}
+use Rattle.il_values.specs.Spelled.{spells}
 use Rattle.il_model.specs.Codes.{usage_of, allows, has_form}
 use Rattle.il_model.specs.Image.{spelling}
 use Rattle.il_model.proofs.Judged.{is_typed}

@@ -2,7 +2,8 @@
 
 ghost use Rattle.std.specs.Prelude.{◌≡◌, ◌<◌, length, position, IfSome};
 ghost use Rattle.il_model.specs.Kinds.{field_name};
-ghost use Rattle.il_model.specs.Words.{spells, split_last};
+ghost use Rattle.il_model.specs.Words.{split_last};
+ghost use Rattle.il_values.specs.Spelled.{spells};
 ghost use Rattle.ctl_model.specs.Slots.{location_slot, variable_slot, instance_slot, field_slot, dotted_slot};
 ghost use Rattle.ctl_model.specs.Slots.{slot_number, slot_of, dialect_by};
 ghost use Rattle.il_model.specs.Image.{version_of};

@@ -1,6 +1,6 @@
 -- The state after a reset is the cold one.
 use Rattle.std.proofs.Common.{◌≡◌, List, [], map, None, refl}
-use Rattle.il_model.specs.declared.value.Value.{Value}
+use Rattle.il_values.specs.declared.value.Value.{Value}
 use Rattle.il_model.specs.declared.cells.Cells.{Cells}
 use Rattle.il_model.specs.declared.program.Area.{Area}
 use Rattle.il_model.specs.declared.program.Variable.{Variable}

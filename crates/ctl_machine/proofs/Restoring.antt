@@ -10,7 +10,7 @@ use Rattle.il_model.specs.Snapshots.{SavedBlock, SavedController}
 use Rattle.il_model.specs.Program.{Program}
 use Rattle.il_model.specs.Fits.{IsProgram}
 use Rattle.il_model.specs.Typing.{Arrives}
-use Rattle.il_model.specs.Values.{ty_of}
+use Rattle.il_values.specs.Values.{ty_of}
 use Rattle.ctl_model.specs.State.{State}
 use Rattle.ctl_model.specs.Slots.{places_of}
 use Rattle.ctl_model.specs.Suits.{AreCells, KeepFirsts, held_of, Suits}

@@ -4,7 +4,7 @@ use Rattle.std.specs.Prelude.{◌&&◌, ◌==◌, filter}
 use Rattle.std.proofs.Math.Dec.{eqb-suc-zero}
 use Rattle.il_model.specs.declared.kind.Field.{Field}
 use Rattle.il_model.specs.Kinds.{field_type, is_input}
-use Rattle.il_model.specs.declared.value.Value.{Value}
+use Rattle.il_values.specs.declared.value.Value.{Value}
 use Rattle.il_model.specs.declared.program.Variable.{Variable}
 use Rattle.il_model.specs.declared.program.Instance.{Instance}
 use Rattle.il_model.specs.declared.fetched.Deferred.{Deferred}

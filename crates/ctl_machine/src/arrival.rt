@@ -1,7 +1,7 @@
 //! The types on arrival at the instructions of an image.
 
 ghost use Rattle.std.specs.Prelude.{◌≡◌, ◌<◌, ◌≤◌, ◌+◌, ◌&&◌, length, map, reverse, Ok, option_map};
-ghost use Rattle.il_model.specs.Values.{ty_of};
+ghost use Rattle.il_values.specs.Values.{ty_of};
 ghost use Rattle.il_model.specs.Row.{same_type, HasRoom};
 ghost use Rattle.il_model.specs.Typing.{shape_on_arrival};
 ghost use Rattle.il_model.specs.Checking.{top_of, shape_after, shape_at};

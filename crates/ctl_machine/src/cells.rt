@@ -5,7 +5,7 @@ ghost use Rattle.std.specs.Option.{option_and_then};
 ghost use Rattle.il_model.specs.Locations.{area_of};
 ghost use Rattle.il_model.specs.Doubles.{double_pattern, word_value};
 ghost use Rattle.il_model.specs.declared.program.Loc.TheVariants.{Bit, Word, Pattern};
-ghost use Rattle.il_model.specs.declared.value.Value.TheVariants as values;
+ghost use Rattle.il_values.specs.declared.value.Value.TheVariants as values;
 ghost use Rattle.ctl_model.specs.State.{same_area, with_first, first_cells, double_in, value_in, with_pattern_at};
 ghost use Rattle.ctl_model.specs.State.{with_value_in};
 ghost use Rattle.ctl_model.specs.Warm.{warm_first, warm_cells};

@@ -1,7 +1,7 @@
 -- A run with breakpoints, against the run without.
 use Rattle.std.proofs.Common.{◌≡◌, ℕ, zero, suc, ◌+◌, ◌≤◌, ◌<◌, Bool, true, false, List, refl, sym, ap, subst, arith}
 use Rattle.std.specs.Prelude.{unwrap_or}
-use Rattle.il_model.specs.declared.value.Stop.TheVariants as stops
+use Rattle.il_values.specs.declared.value.Stop.TheVariants as stops
 use Rattle.il_model.specs.Program.{Program}
 use Rattle.ctl_model.specs.State.{State}
 use Rattle.ctl_model.specs.Step as steps

@@ -3,17 +3,17 @@ use Rattle.std.proofs.Common.{◌≡◌, ℕ, Bool, true, false, cond, ltb, List
 use Rattle.std.specs.Prelude.{ℤ, suc, pos, negsuc, unwrap_or, slice_set}
 use Rattle.std.specs.Option.{option_map, option_and_then}
 use Rattle.std.proofs.lemmas.List.{length-set}
-use Rattle.il_model.specs.declared.value.Ty.{Ty}
-use Rattle.il_model.specs.declared.value.Ty.TheVariants as types
-use Rattle.il_model.specs.declared.value.Value.{Value}
-use Rattle.il_model.specs.declared.value.Value.TheVariants as values
+use Rattle.il_values.specs.declared.value.Ty.{Ty}
+use Rattle.il_values.specs.declared.value.Ty.TheVariants as types
+use Rattle.il_values.specs.declared.value.Value.{Value}
+use Rattle.il_values.specs.declared.value.Value.TheVariants as values
 use Rattle.il_model.specs.declared.program.Area.{Area}
 use Rattle.il_model.specs.declared.program.Loc.{Loc}
 use Rattle.il_model.specs.declared.program.Loc.TheVariants.{Bit, Word, Pattern, Double}
 use Rattle.il_model.specs.declared.program.Variable.{Variable}
 use Rattle.il_model.specs.declared.cells.Cells.{Cells}
 use Rattle.il_model.specs.Program.{Program}
-use Rattle.il_model.specs.Values.{ty_of, number_of, is_within, truth_made, typed_value}
+use Rattle.il_values.specs.Values.{ty_of, number_of, is_within, truth_made, typed_value}
 use Rattle.il_model.specs.Codes.{if_passes, may_start_with}
 use Rattle.il_model.specs.Fits.{IsVariable, AreItems, IsProgram}
 use Rattle.il_model.specs.Doubles.{double_pattern, high_word, low_word}
@@ -23,8 +23,8 @@ use Rattle.il_model.specs.Locations.{area_of, clear_cells}
 use Rattle.il_model.specs.Typing.{Shape, Arrives}
 use Rattle.ctl_model.specs.Suits.{AreCells, HasValues, Suits, held_of}
 use Rattle.ctl_model.proofs.Instances.{all_cold}
-use Rattle.il_model.proofs.RealValues.{real_is}
-use Rattle.il_model.proofs.BitValues.{bits_are}
+use Rattle.il_values.proofs.RealValues.{real_is}
+use Rattle.il_values.proofs.BitValues.{bits_are}
 use Rattle.std.specs.Int.{w16, cast_signed}
 use Rattle.ctl_model.proofs.FirstValues.{firsts_first}
 

@@ -4,12 +4,12 @@ use Rattle.std.specs.Prelude.{◌&&◌, nat_eq, slice_get, drop}
 use Rattle.std.specs.Option.{option_map}
 use Rattle.std.specs.List.{AllByRecursion}
 use Rattle.std.proofs.lemmas.Bool.{eqb-true, eq-eqb}
-use Rattle.il_model.specs.declared.value.Ty.{Ty}
-use Rattle.il_model.specs.declared.value.Ty.TheVariants as types
-use Rattle.il_model.specs.declared.value.Value.{Value}
+use Rattle.il_values.specs.declared.value.Ty.{Ty}
+use Rattle.il_values.specs.declared.value.Ty.TheVariants as types
+use Rattle.il_values.specs.declared.value.Value.{Value}
 use Rattle.il_model.specs.declared.kind.BlockKind.{BlockKind}
 use Rattle.il_model.specs.declared.kind.BlockKind.TheVariants as kinds
-use Rattle.il_model.specs.declared.op.Op.{Op}
+use Rattle.il_values.specs.declared.op.Op.{Op}
 use Rattle.il_model.specs.declared.program.Instance.{Instance}
 use Rattle.il_model.specs.declared.program.Instr.{Instr}
 use Rattle.il_model.specs.declared.typing.Held.{Held}
@@ -17,11 +17,11 @@ use Rattle.il_model.specs.declared.typing.Effect.{Effect}
 use Rattle.il_model.specs.declared.typing.Effect.TheVariants.{Sets, Opens, Closes}
 use Rattle.il_model.specs.declared.typing.TypeFault.{TypeFault}
 use Rattle.il_model.specs.Snapshots.{SavedBlock, SavedController}
-use Rattle.il_model.specs.Values.{ty_of}
+use Rattle.il_values.specs.Values.{ty_of}
 use Rattle.il_model.specs.Row.{same_type, HasRoom}
 use Rattle.il_model.specs.Kinds.{kind_code, kind_of_code}
-use Rattle.il_model.specs.Image.{op_code}
-use Rattle.il_model.specs.Codes.{op_of}
+use Rattle.il_values.specs.OpCodes.{op_code}
+use Rattle.il_values.specs.OpCodes.{op_of}
 use Rattle.il_model.specs.Program.{Program}
 use Rattle.il_model.specs.Resolved.{is_labelled}
 use Rattle.il_model.specs.Typing.{Shape, shape_on_arrival}
@@ -33,7 +33,7 @@ use Rattle.il_model.proofs.TypedLines.{bind_ok, numbered_ok}
 use Rattle.il_model.proofs.Room.{line_room}
 use Rattle.ctl_model.specs.State.{BlockInstance}
 use Rattle.ctl_model.specs.Suits.{held_of, input_types, IsInstanceOf, AreInstances}
-use Rattle.il_model.specs.Operators.{same_truth}
+use Rattle.il_values.specs.Operators.{same_truth}
 use Rattle.ctl_model.specs.Snapshots.{saved_instance, are_types, fits_instance, fit_instances, same_optional, same_held, all_held, fits_types}
 
 pub and_both : (a b : Bool) → a ≡ true → b ≡ true → (a && b) ≡ true

@@ -4,9 +4,9 @@ use Rattle.std.specs.Prelude.{ℤ, nat_lt, replicate}
 use Rattle.std.specs.Option.{option_map, option_and_then}
 use Rattle.std.proofs.lemmas.Bool.{ltb-true, ltb-false, lt-ltb}
 use Rattle.std.proofs.lemmas.List.{append-nil}
-use Rattle.il_model.specs.declared.value.Ty.TheVariants as types
-use Rattle.il_model.specs.declared.value.Value.{Value}
-use Rattle.il_model.specs.declared.value.Value.TheVariants as values
+use Rattle.il_values.specs.declared.value.Ty.TheVariants as types
+use Rattle.il_values.specs.declared.value.Value.{Value}
+use Rattle.il_values.specs.declared.value.Value.TheVariants as values
 use Rattle.il_model.specs.declared.program.Area.{Area}
 use Rattle.il_model.specs.declared.program.Area.TheVariants as areas
 use Rattle.il_model.specs.declared.program.Loc.{Loc}
@@ -14,7 +14,7 @@ use Rattle.il_model.specs.declared.program.Loc.TheVariants.{Bit, Word, Pattern, 
 use Rattle.il_model.specs.declared.program.DoubleType.{DoubleType}
 use Rattle.il_model.specs.declared.program.DoubleType.TheVariants as doubles
 use Rattle.il_model.specs.declared.snapshot.ForcedSlot.{ForcedSlot}
-use Rattle.il_model.specs.Values.{ty_of}
+use Rattle.il_values.specs.Values.{ty_of}
 use Rattle.il_model.specs.Row.{same_type}
 use Rattle.il_model.specs.Locations.{begins_double}
 use Rattle.il_model.specs.CodedOperands.{double_loc, pattern_loc, double_there, area_loc, any_loc}

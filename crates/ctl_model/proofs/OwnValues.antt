@@ -2,9 +2,9 @@
 use Rattle.std.proofs.Common.{◌≡◌, zero, suc, Bool, true, false, List, [], ◌∷◌, map, Some, refl, sym, ap, ◌∙◌}
 use Rattle.std.specs.Prelude.{cond, filter}
 use Rattle.std.specs.List.{items_where_true}
-use Rattle.il_model.specs.declared.value.Value.{Value}
+use Rattle.il_values.specs.declared.value.Value.{Value}
 use Rattle.il_model.specs.declared.program.Variable.{Variable}
-use Rattle.il_model.specs.Values.{ty_of}
+use Rattle.il_values.specs.Values.{ty_of}
 use Rattle.ctl_model.specs.State.{has_own}
 use Rattle.ctl_model.specs.Suits.{KeepFirsts}
 use Rattle.ctl_model.specs.Snapshots.{own_values, own_types}

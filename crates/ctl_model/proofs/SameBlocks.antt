@@ -1,6 +1,6 @@
 -- A lawful instance is known by what a snapshot has of it, as a block is by its kind and its words.
 use Rattle.std.proofs.Common.{◌≡◌, true, List, [], ◌∷◌, map, refl, ap, ◌∙◌}
-use Rattle.il_model.specs.declared.value.Value.{Value}
+use Rattle.il_values.specs.declared.value.Value.{Value}
 use Rattle.il_model.specs.Snapshots.{SavedBlock}
 use Rattle.ctl_blocks.specs.declared.block.Block.{Block}
 use Rattle.ctl_blocks.specs.Blocks.{is_block, IsKnown}

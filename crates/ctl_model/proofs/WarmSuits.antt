@@ -1,14 +1,14 @@
 -- A warm start leaves a state that suits the program; where nothing is retained it is a cold one.
 use Rattle.std.proofs.Common.{◌≡◌, zero, suc, Bool, true, false, cond, List, [], ◌∷◌, ◌++◌, map, Some, refl, sym, ap, ◌∙◌}
 use Rattle.std.specs.List.{AllByRecursion}
-use Rattle.il_model.specs.declared.value.Ty.{Ty}
-use Rattle.il_model.specs.declared.value.Value.{Value}
+use Rattle.il_values.specs.declared.value.Ty.{Ty}
+use Rattle.il_values.specs.declared.value.Value.{Value}
 use Rattle.il_model.specs.declared.program.Area.{Area}
 use Rattle.il_model.specs.declared.program.Variable.{Variable}
 use Rattle.il_model.specs.declared.program.Instance.{Instance}
 use Rattle.il_model.specs.declared.cells.Cells.{Cells}
 use Rattle.il_model.specs.Program.{Program}
-use Rattle.il_model.specs.Values.{ty_of}
+use Rattle.il_values.specs.Values.{ty_of}
 use Rattle.il_model.specs.Fits.{IsVariable, AreItems, IsProgram}
 use Rattle.ctl_model.specs.State.{State, BlockInstance, cold_instance, cold}
 use Rattle.ctl_model.specs.Suits.{KeepFirsts, HasValues, Suits, IsInstanceOf, AreInstances}

@@ -1,10 +1,10 @@
 -- What a run comes to, said case by case. Each case that is no end performs one instruction; none counts anything down.
 use Rattle.std.specs.Prelude.{◌≡◌, ℕ, ◌+◌, ◌<◌, ◌≤◌, Bool, true, false, List, length, [], ◌∷◌}
-use Rattle.il_model.specs.declared.value.Stop.{Stop}
+use Rattle.il_values.specs.declared.value.Stop.{Stop}
 use Rattle.il_model.specs.declared.command.Command.{Command}
 use Rattle.il_model.specs.declared.command.Answer.{Answer}
 use Rattle.il_model.specs.declared.cells.InImage.{InImage}
-use Rattle.il_model.specs.declared.value.Stop.TheVariants as stops
+use Rattle.il_values.specs.declared.value.Stop.TheVariants as stops
 use Rattle.il_model.specs.declared.command.Command.TheVariants as commands
 use Rattle.il_model.specs.declared.command.Answer.TheVariants as answers
 use Rattle.il_model.specs.Program.{Program}

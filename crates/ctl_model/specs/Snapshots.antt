@@ -4,9 +4,9 @@ use Rattle.std.specs.Prelude.{Option, Some, None, is_none, Result, Ok, Err, nat_
 use Rattle.std.specs.Option.{option_map}
 use Rattle.std.specs.Str.{bytes_eq}
 use Rattle.il_model.specs.declared.typing.TypeFault.{TypeFault}
-use Rattle.il_model.specs.declared.value.Ty.{Ty}
-use Rattle.il_model.specs.declared.value.Value.{Value}
-use Rattle.il_model.specs.declared.value.Value.TheVariants as values
+use Rattle.il_values.specs.declared.value.Ty.{Ty}
+use Rattle.il_values.specs.declared.value.Value.{Value}
+use Rattle.il_values.specs.declared.value.Value.TheVariants as values
 use Rattle.il_model.specs.declared.program.Instance.{Instance}
 use Rattle.il_model.specs.declared.program.Variable.{Variable}
 use Rattle.il_model.specs.declared.program.Area.{Area}
@@ -18,12 +18,13 @@ use Rattle.il_model.specs.declared.snapshot.ForcedSlot.{ForcedSlot}
 use Rattle.il_model.specs.declared.snapshot.SavedPhase.{SavedPhase}
 use Rattle.il_model.specs.declared.snapshot.SavedPhase.TheVariants as saved_phases
 use Rattle.il_model.specs.Snapshots.{SavedBlock, SavedController}
-use Rattle.il_model.specs.Values.{ty_of}
-use Rattle.il_model.specs.Operators.{same_truth}
+use Rattle.il_values.specs.Values.{ty_of}
+use Rattle.il_values.specs.Operators.{same_truth}
 use Rattle.il_model.specs.Row.{same_type}
 use Rattle.il_model.specs.Kinds.{kind_code}
 use Rattle.il_model.specs.CodedOperands.{loc_code}
-use Rattle.il_model.specs.Image.{op_code, spelling}
+use Rattle.il_model.specs.Image.{spelling}
+use Rattle.il_values.specs.OpCodes.{op_code}
 use Rattle.il_model.specs.Typing.{Shape, loc_type}
 use Rattle.il_model.specs.Checking.{shape_at}
 use Rattle.il_model.specs.Program.{Program}

@@ -4,7 +4,7 @@ use Rattle.il_model.specs.declared.program.Place.{Place}
 use Rattle.il_model.specs.declared.limits.TheConstants.{BITS, WORDS}
 use Rattle.il_model.specs.declared.snapshot.ForcedSlot.{ForcedSlot}
 use Rattle.il_model.specs.declared.snapshot.SavedPhase.{SavedPhase}
-use Rattle.il_model.specs.declared.value.Value.TheVariants as values
+use Rattle.il_values.specs.declared.value.Value.TheVariants as values
 use Rattle.il_model.specs.declared.snapshot.SavedPhase.TheVariants as saved_phases
 use Rattle.il_model.specs.Program.{Program}
 use Rattle.il_model.specs.Snapshots.{SavedController}

@@ -4,8 +4,8 @@ use Rattle.std.specs.Prelude.{Bool, ◌&&◌, if◌then◌else◌, map}
 use Rattle.std.specs.List.{flat_map, list_all}
 use Rattle.std.specs.Option.{option_map, option_and_then}
 use Rattle.std.proofs.lemmas.List.{map-append}
-use Rattle.il_model.specs.declared.value.Ty.{Ty}
-use Rattle.il_model.specs.declared.value.Value.{Value}
+use Rattle.il_values.specs.declared.value.Ty.{Ty}
+use Rattle.il_values.specs.declared.value.Value.{Value}
 use Rattle.il_model.specs.declared.codes.Version.{Version}
 use Rattle.il_model.specs.declared.codes.Version.TheVariants as versions
 use Rattle.il_model.specs.declared.kind.BlockKind.{BlockKind}
@@ -21,7 +21,8 @@ use Rattle.il_model.specs.Resolved.{target_of, instance_in, kind_in, called_kind
 use Rattle.il_model.specs.Marks.{Mark, marks_from, words_in, address_of}
 use Rattle.il_model.specs.Constants.{same_value, operand_literal, joined_constants, constants_from, operands_in, operands_of}
 use Rattle.il_model.specs.CodedOperands.{code_of}
-use Rattle.il_model.specs.Image.{number_or_unused, coded_operand, operand_code, coded_word, op_code, modifier_code, side_code, field_number_code, word_bytes, argument_bytes, instruction_bytes, may_declare, may_instantiate, may_keep, may_write, version_with, header_bytes, variable_bytes, instance_bytes, mark_bytes, constant_bytes, spelling}
+use Rattle.il_model.specs.Image.{number_or_unused, coded_operand, operand_code, coded_word, modifier_code, side_code, field_number_code, word_bytes, argument_bytes, instruction_bytes, may_declare, may_instantiate, may_keep, may_write, version_with, header_bytes, variable_bytes, instance_bytes, mark_bytes, constant_bytes, spelling}
+use Rattle.il_values.specs.OpCodes.{op_code}
 use Rattle.il_model.specs.Settled.{settled_argument, settled_line, typed_program_of}
 use Rattle.il_model.proofs.ArgumentFaults.{settled_argument_none}
 use Rattle.il_model.proofs.SettledPrograms.{Alike, literal_is, settled_none, called_settled, is_settling, settling_alike, target_alike, typed_program}

@@ -5,10 +5,10 @@ use Rattle.std.specs.List.{AllByRecursion, list_all}
 use Rattle.std.specs.Option.{option_map}
 use Rattle.std.proofs.lemmas.List.{length-map}
 use Rattle.std.proofs.lemmas.Option.{slice_get_within}
-use Rattle.il_model.specs.declared.value.Ty.{Ty}
-use Rattle.il_model.specs.declared.value.Value.{Value}
-use Rattle.il_model.specs.declared.op.Op.{Op}
-use Rattle.il_model.specs.declared.op.Modifier.{Modifier}
+use Rattle.il_values.specs.declared.value.Ty.{Ty}
+use Rattle.il_values.specs.declared.value.Value.{Value}
+use Rattle.il_values.specs.declared.op.Op.{Op}
+use Rattle.il_values.specs.declared.op.Modifier.{Modifier}
 use Rattle.il_model.specs.declared.kind.Field.{Field}
 use Rattle.il_model.specs.declared.program.Operand.{Operand}
 use Rattle.il_model.specs.declared.program.Operand.TheVariants as operands
@@ -22,7 +22,7 @@ use Rattle.il_model.specs.Marks.{with_mark, marks_from, word_count, words_in, ad
 use Rattle.il_model.specs.declared.codes.Version.{Version}
 use Rattle.il_model.specs.Image.{op_version, operand_version, may_have, may_label, may_name, may_write}
 use Rattle.il_model.specs.Kinds.{any_field, field_type}
-use Rattle.il_model.specs.Values.{typed_value}
+use Rattle.il_values.specs.Values.{typed_value}
 use Rattle.il_model.proofs.Versions.{all_passed}
 use Rattle.il_model.specs.Settled.{settled_as, settled_number, settled_operand, settled_passing, settled_argument, settled_line, typed_program_of, IsTypedProgramOf}
 use Rattle.il_model.proofs.SettledPrograms.{some_is, typed_program}

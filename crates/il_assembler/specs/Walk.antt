@@ -2,7 +2,7 @@
 use Rattle.std.specs.Prelude.{ℕ, List, [], ◌∷◌, ◌++◌, ◌+◌, ◌≤◌, length, map, Option, Some, None, ◌≡◌, Result, Ok, Err}
 use Rattle.std.specs.List.{flat_map}
 use Rattle.std.specs.Option.{option_and_then}
-use Rattle.il_model.specs.declared.value.Value.{Value}
+use Rattle.il_values.specs.declared.value.Value.{Value}
 use Rattle.il_model.specs.declared.program.Operand.{Operand}
 use Rattle.il_model.specs.declared.program.Instr.{Instr}
 use Rattle.il_model.specs.declared.program.Argument.{Argument}
@@ -14,7 +14,8 @@ use Rattle.il_model.specs.Marks.{marks_from, words_in, word_count}
 use Rattle.il_model.specs.Settled.{settled_argument, typed_program_of}
 use Rattle.il_model.specs.Constants.{same_value, operand_literal, joined_constants}
 use Rattle.il_model.specs.CodedOperands.{code_of}
-use Rattle.il_model.specs.Image.{coded_literal, operand_code, coded_word, op_code, modifier_code, side_code}
+use Rattle.il_model.specs.Image.{coded_literal, operand_code, coded_word, modifier_code, side_code}
+use Rattle.il_values.specs.OpCodes.{op_code}
 use Rattle.il_model.specs.Image.{field_number_code, version_with, header_bytes, variable_bytes, instance_bytes}
 use Rattle.il_model.specs.Image.{mark_bytes, constant_bytes, spelling}
 use Rattle.il_assembler.specs.declared.fault.AsmError.{AsmError}

@@ -7,7 +7,7 @@ ghost use Rattle.il_assembler.specs.Walk.{settled_instruction, settled_words, se
 ghost use Rattle.il_assembler.specs.Walk.{addresses_from};
 ghost use Rattle.std.specs.Int.{w8, w16, w32, w64, to_be_bytes, cast_unsigned};
 ghost use Rattle.std.specs.List.{AllByRecursion, flat_map, list_all};
-ghost use Rattle.il_model.specs.Values.{number_of};
+ghost use Rattle.il_values.specs.Values.{number_of};
 ghost use Rattle.il_model.specs.Kinds.{field_number};
 ghost use Rattle.il_model.specs.Marks.{with_mark, marks_from, words_in};
 ghost use Rattle.il_model.specs.declared.coded_operand.CodedOperand.TheVariants as coded;

@@ -6,7 +6,8 @@ use Rattle.std.proofs.Math.ListN.{length-map}
 use Rattle.il_model.specs.Words.{is_first_byte, is_name_byte, begins_name, begins_with, is_well_spelled, is_reserved}
 use Rattle.il_model.specs.declared.dialect.Dialect.{Dialect}
 use Rattle.il_model.specs.declared.dialect.Dialect.TheVariants as dialects
-use Rattle.il_model.specs.Words.{is_lawful_name, is_dot, has_dot, onto_first, name_parts, is_part, upper}
+use Rattle.il_model.specs.Words.{is_lawful_name, is_dot, has_dot, onto_first, name_parts, is_part}
+use Rattle.il_values.specs.Spelled.{upper}
 use Rattle.il_reader.specs.Tokens.{is_letter_byte, is_word_byte, is_within, begins_letter}
 use Rattle.il_reader.specs.Words.{IsWordText, IsNameText}
 use Rattle.il_reader.proofs.NameRuns.{or_left, or_right, plain_parts}

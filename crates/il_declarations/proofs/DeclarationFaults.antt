@@ -6,9 +6,9 @@ use Rattle.std.proofs.lemmas.List.{append-nil}
 use Rattle.std.proofs.lemmas.List.Elements.{filter_map-append}
 use Rattle.std.proofs.lemmas.List.Concat.{flat_map-append}
 use Rattle.il_model.specs.declared.dialect.Dialect.{Dialect}
-use Rattle.il_model.specs.declared.value.Ty.{Ty}
-use Rattle.il_model.specs.declared.value.Value.{Value}
-use Rattle.il_model.specs.declared.value.Value.TheVariants as values
+use Rattle.il_values.specs.declared.value.Ty.{Ty}
+use Rattle.il_values.specs.declared.value.Value.{Value}
+use Rattle.il_values.specs.declared.value.Value.TheVariants as values
 use Rattle.il_model.specs.declared.program.Loc.{Loc}
 use Rattle.il_model.specs.Program.{Declarations}
 use Rattle.il_model.specs.Words.{is_reserved}
@@ -16,7 +16,7 @@ use Rattle.il_model.specs.CodedOperands.{loc_code}
 use Rattle.il_model.specs.Codes.{is_taken, is_overlapped}
 use Rattle.il_model.specs.Dialects.{location_in}
 use Rattle.il_model.specs.Locations.{parts_of}
-use Rattle.il_model.specs.Values.{zero_of}
+use Rattle.il_values.specs.Values.{zero_of}
 use Rattle.il_reader.specs.Tokens.{Token}
 use Rattle.il_reader.specs.Grammar.{NamesText, Located, More, DeclarationText, ProgramText}
 use Rattle.il_declarations.specs.declared.variables.Plan.{Plan}

@@ -8,20 +8,20 @@ use Rattle.std.proofs.lemmas.List.{length-append, append-nil}
 use Rattle.std.proofs.lemmas.Bool.{lt-ltb, le-ltb, le-leb, leb-false}
 use Rattle.il_model.specs.declared.dialect.Dialect.{Dialect}
 use Rattle.il_model.specs.declared.dialect.Dialect.TheVariants as dialects
-use Rattle.il_model.specs.declared.function.Function.{Function}
-use Rattle.il_model.specs.Functions.{function_named}
+use Rattle.il_values.specs.declared.function.Function.{Function}
+use Rattle.il_values.specs.Functions.{function_named}
 use Rattle.il_model.specs.Dialects.{applied, or_function, or_extended, operator_in, literal_in, location_in}
 use Rattle.il_model.specs.Program.{program_of, Program, Declarations}
 use Rattle.il_model.specs.declared.codes.Version.TheVariants as versions
-use Rattle.il_model.specs.declared.value.Ty.{Ty}
-use Rattle.il_model.specs.declared.value.Ty.TheVariants as types
-use Rattle.il_model.specs.declared.value.Value.{Value}
-use Rattle.il_model.specs.declared.value.Value.TheVariants as values
+use Rattle.il_values.specs.declared.value.Ty.{Ty}
+use Rattle.il_values.specs.declared.value.Ty.TheVariants as types
+use Rattle.il_values.specs.declared.value.Value.{Value}
+use Rattle.il_values.specs.declared.value.Value.TheVariants as values
 use Rattle.il_model.specs.declared.literal.Literal.{Literal}
 use Rattle.il_model.specs.declared.literal.Literal.TheVariants.{Bare, Typed}
-use Rattle.il_model.specs.declared.op.Op.{Op}
-use Rattle.il_model.specs.declared.op.Op.TheVariants as ops
-use Rattle.il_model.specs.declared.op.Modifier.{Modifier}
+use Rattle.il_values.specs.declared.op.Op.{Op}
+use Rattle.il_values.specs.declared.op.Op.TheVariants as ops
+use Rattle.il_values.specs.declared.op.Modifier.{Modifier}
 use Rattle.il_model.specs.declared.words.Mnemonic.{Mnemonic}
 use Rattle.il_model.specs.declared.program.Loc.{Loc}
 use Rattle.il_model.specs.declared.program.Variable.{Variable}
@@ -34,8 +34,9 @@ use Rattle.il_model.specs.declared.program.Instr.{Instr}
 use Rattle.il_model.specs.declared.codes.Usage.{Usage}
 use Rattle.il_model.specs.declared.codes.OperandForm as usage
 use Rattle.il_model.specs.declared.codes.OperandForm.TheVariants as usages
-use Rattle.il_model.specs.Values.{ty_of, number_of, typed_value, zero_of}
-use Rattle.il_model.specs.Words.{same_name, stands_under, split_last, is_reserved, is_lawful_name, spells, look, mnemonic_of, mnemonic_table, extended_mnemonic_of, extended_mnemonic_table}
+use Rattle.il_values.specs.Values.{ty_of, number_of, typed_value, zero_of}
+use Rattle.il_model.specs.Words.{same_name, stands_under, split_last, is_reserved, is_lawful_name, look, mnemonic_of, mnemonic_table, extended_mnemonic_of, extended_mnemonic_table}
+use Rattle.il_values.specs.Spelled.{spells}
 use Rattle.il_model.specs.Resolved.{instance_in}
 use Rattle.il_model.specs.CodedOperands.{loc_code, IsCell}
 use Rattle.il_model.specs.Image.{type_code}
@@ -43,13 +44,13 @@ use Rattle.il_model.specs.declared.program.Area.{Area}
 use Rattle.il_model.specs.Locations.{area_of, seen_as}
 use Rattle.il_model.specs.Typing.{loc_type, is_writable_area}
 use Rattle.il_model.specs.Codes as codes_of
-use Rattle.il_model.specs.Operators.{is_zero}
+use Rattle.il_values.specs.Operators.{is_zero}
 use Rattle.il_model.specs.Codes.{if_passes, is_new_name, is_taken, is_overlapped, is_type, is_number, has_under, length_in, may_start_with, initial_of, usage_of, has_form, allowed_by, formed_by, is_empty}
 use Rattle.il_model.specs.Fits.{IsVariable, IsInstance, AreItems}
 use Rattle.il_model.specs.Lawful.{IsLabel}
 use Rattle.il_model.specs.Declarable.{IsOperand, as_value, IsArgument, IsInstruction, IsDeclared}
 use Rattle.il_model.proofs.LiteralLaws.{IsInRange, literal_in_good, start_again}
-use Rattle.il_model.proofs.RealValues.{bare_made, real_again}
+use Rattle.il_values.proofs.RealValues.{bare_made, real_again}
 use Rattle.il_model.proofs.Positions.{position_first, position_later, position_past}
 use Rattle.il_reader.specs.declared.contents.Operator.{Operator}
 use Rattle.il_reader.specs.declared.operations.Form.{Form}

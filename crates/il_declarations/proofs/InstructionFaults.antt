@@ -7,7 +7,7 @@ use Rattle.il_model.specs.declared.dialect.Dialect.{Dialect}
 use Rattle.il_model.specs.Dialects.{literal_in, location_in}
 use Rattle.il_model.specs.declared.literal.Literal.{Literal}
 use Rattle.il_model.specs.declared.literal.Literal.TheVariants.{Bare, Typed}
-use Rattle.il_model.specs.declared.op.Op.TheVariants as ops
+use Rattle.il_values.specs.declared.op.Op.TheVariants as ops
 use Rattle.il_model.specs.declared.program.Loc.{Loc}
 use Rattle.il_model.specs.declared.program.Operand.{Operand}
 use Rattle.il_model.specs.declared.program.Operand.TheVariants as operands

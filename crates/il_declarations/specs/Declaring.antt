@@ -6,11 +6,11 @@ use Rattle.std.specs.List.{flat_map, filter_map, list_any, AllZip}
 use Rattle.std.specs.Option.{option_map}
 use Rattle.il_model.specs.declared.dialect.Dialect.{Dialect}
 use Rattle.il_model.specs.Dialects.{literal_in, location_in}
-use Rattle.il_model.specs.declared.value.Ty.{Ty}
-use Rattle.il_model.specs.declared.value.Value.{Value}
+use Rattle.il_values.specs.declared.value.Ty.{Ty}
+use Rattle.il_values.specs.declared.value.Value.{Value}
 use Rattle.il_model.specs.declared.literal.Literal.{Literal}
 use Rattle.il_model.specs.declared.literal.Literal.TheVariants.{Bare, Typed}
-use Rattle.il_model.specs.declared.op.Op.TheVariants as ops
+use Rattle.il_values.specs.declared.op.Op.TheVariants as ops
 use Rattle.il_model.specs.declared.program.Loc.{Loc}
 use Rattle.il_model.specs.declared.program.Variable.{Variable}
 use Rattle.il_model.specs.declared.program.Operand.{Operand}
@@ -20,7 +20,7 @@ use Rattle.il_model.specs.declared.program.Argument.{Argument}
 use Rattle.il_model.specs.declared.program.Instr.{Instr}
 use Rattle.il_model.specs.Program.{Program}
 use Rattle.il_model.specs.Words.{same_name, split_last, stands_under}
-use Rattle.il_model.specs.Values.{zero_of}
+use Rattle.il_values.specs.Values.{zero_of}
 use Rattle.il_model.specs.Codes.{has_code}
 use Rattle.il_model.specs.Locations.{seen_as}
 use Rattle.il_reader.specs.Tokens.{Token}

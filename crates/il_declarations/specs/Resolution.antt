@@ -4,21 +4,21 @@ use Rattle.std.specs.Prelude.{if◌then◌else◌, codes}
 use Rattle.il_model.specs.declared.dialect.Dialect.{Dialect}
 use Rattle.il_model.specs.declared.dialect.Dialect.TheVariants as dialects
 use Rattle.il_model.specs.Dialects.{literal_in}
-use Rattle.il_model.specs.declared.value.Ty.{Ty}
-use Rattle.il_model.specs.declared.value.Ty.TheVariants as types
-use Rattle.il_model.specs.declared.value.Value.{Value}
+use Rattle.il_values.specs.declared.value.Ty.{Ty}
+use Rattle.il_values.specs.declared.value.Ty.TheVariants as types
+use Rattle.il_values.specs.declared.value.Value.{Value}
 use Rattle.il_model.specs.declared.literal.Literal.{Literal}
 use Rattle.il_model.specs.declared.literal.Literal.TheVariants.{Bare, Typed}
-use Rattle.il_model.specs.declared.op.Modifier.{Modifier}
+use Rattle.il_values.specs.declared.op.Modifier.{Modifier}
 use Rattle.il_model.specs.declared.program.Loc.{Loc}
 use Rattle.il_model.specs.declared.program.Variable.{Variable}
 use Rattle.il_model.specs.declared.kind.BlockKind.{BlockKind}
 use Rattle.il_model.specs.Program.{Program}
 use Rattle.il_model.specs.Kinds.{kind_of_name}
-use Rattle.il_model.specs.Words.{upper, spells}
+use Rattle.il_values.specs.Spelled.{upper, spells}
 pub use Rattle.il_model.specs.Words.{plain}
 pub use Rattle.il_model.specs.Row.{same_type}
-use Rattle.il_model.specs.Values.{ty_of, number_of, typed_value, bare_value}
+use Rattle.il_values.specs.Values.{ty_of, number_of, typed_value, bare_value}
 use Rattle.il_model.specs.Locations.{area_of, seen_as}
 use Rattle.il_model.specs.Typing.{loc_type, is_writable_area}
 use Rattle.il_model.specs.Codes.{is_type}

@@ -4,12 +4,12 @@ use Rattle.std.specs.Prelude.{codes}
 use Rattle.std.specs.List.{between}
 use Rattle.std.proofs.lemmas.Bool.Decides.{nat_tests}
 use Rattle.std.proofs.lemmas.Slice.{first_rest}
-use Rattle.il_model.specs.declared.value.Value.{Value}
+use Rattle.il_values.specs.declared.value.Value.{Value}
 use Rattle.il_model.specs.declared.program.Argument.{Argument}
 use Rattle.il_model.specs.declared.program.Operand.{Operand}
 use Rattle.il_model.specs.declared.program.Operand.TheVariants as operands
-use Rattle.il_model.specs.Values.{number_of}
-use Rattle.il_model.specs.Operators.{is_zero}
+use Rattle.il_values.specs.Values.{number_of}
+use Rattle.il_values.specs.Operators.{is_zero}
 use Rattle.il_lister.specs.Listing.{literal_text, initial_text, operand_text, behind_text, arguments_text}
 
 is_zero-other : (z : ℤ) → (z ≡ pos 0 → ⊥) → is_zero z ≡ false

@@ -1,10 +1,10 @@
 -- Worked listings, by computing the definition.
 use Rattle.std.proofs.Common.{◌≡◌, ℕ, List, [], ◌∷◌, ◌++◌, Some, None, false, true, refl}
 use Rattle.std.specs.Prelude.{pos, negsuc, codes}
-use Rattle.il_model.specs.declared.value.Ty.TheVariants as types
-use Rattle.il_model.specs.declared.value.Value.TheVariants as values
-use Rattle.il_model.specs.declared.function.Function.TheVariants as functions
-use Rattle.il_model.specs.declared.op.Op.TheVariants as ops
+use Rattle.il_values.specs.declared.value.Ty.TheVariants as types
+use Rattle.il_values.specs.declared.value.Value.TheVariants as values
+use Rattle.il_values.specs.declared.function.Function.TheVariants as functions
+use Rattle.il_values.specs.declared.op.Op.TheVariants as ops
 use Rattle.il_model.specs.declared.program.Area.TheVariants as areas
 use Rattle.il_model.specs.declared.program.Loc.TheVariants.{Bit, Word}
 use Rattle.il_model.specs.declared.program.Operand.{Operand}

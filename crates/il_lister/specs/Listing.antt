@@ -4,17 +4,17 @@ use Rattle.std.specs.Prelude.{Option, Some, None, if◌then◌else◌, codes, �
 use Rattle.std.specs.List.{flat_map}
 use Rattle.std.specs.Int.Digits.{digits_of}
 use Rattle.il_real.specs.Texts.{real_text}
-use Rattle.il_model.specs.declared.value.Ty.{Ty}
-use Rattle.il_model.specs.declared.value.Ty.TheVariants as types
-use Rattle.il_model.specs.declared.value.Value.{Value}
-use Rattle.il_model.specs.declared.value.Value.TheVariants as values
-use Rattle.il_model.specs.declared.function.Function.{Function}
-use Rattle.il_model.specs.declared.function.Function.TheVariants as functions
-use Rattle.il_model.specs.declared.shift.Shift.{Shift}
-use Rattle.il_model.specs.declared.shift.Shift.TheVariants as shifts
-use Rattle.il_model.specs.declared.op.Op.{Op}
-use Rattle.il_model.specs.declared.op.Op.TheVariants as ops
-use Rattle.il_model.specs.declared.op.Modifier.{Modifier}
+use Rattle.il_values.specs.declared.value.Ty.{Ty}
+use Rattle.il_values.specs.declared.value.Ty.TheVariants as types
+use Rattle.il_values.specs.declared.value.Value.{Value}
+use Rattle.il_values.specs.declared.value.Value.TheVariants as values
+use Rattle.il_values.specs.declared.function.Function.{Function}
+use Rattle.il_values.specs.declared.function.Function.TheVariants as functions
+use Rattle.il_values.specs.declared.shift.Shift.{Shift}
+use Rattle.il_values.specs.declared.shift.Shift.TheVariants as shifts
+use Rattle.il_values.specs.declared.op.Op.{Op}
+use Rattle.il_values.specs.declared.op.Op.TheVariants as ops
+use Rattle.il_values.specs.declared.op.Modifier.{Modifier}
 use Rattle.il_model.specs.declared.program.Area.{Area}
 use Rattle.il_model.specs.declared.program.Area.TheVariants as areas
 use Rattle.il_model.specs.declared.program.Loc.{Loc}
@@ -27,11 +27,11 @@ use Rattle.il_model.specs.declared.program.Side.{Side}
 use Rattle.il_model.specs.declared.program.Side.TheVariants as sides
 use Rattle.il_model.specs.declared.program.Argument.{Argument}
 use Rattle.il_model.specs.declared.program.Instr.{Instr}
-use Rattle.il_model.specs.Values.{number_of}
-use Rattle.il_model.specs.Operators.{is_zero}
-use Rattle.il_model.specs.Words.{spells}
+use Rattle.il_values.specs.Values.{number_of}
+use Rattle.il_values.specs.Operators.{is_zero}
+use Rattle.il_values.specs.Spelled.{spells}
 use Rattle.il_model.specs.declared.limits.TheConstants.{LONGEST_DOTTED_NAME}
-use Rattle.il_model.specs.BitStrings.{hex_word, hex_double}
+use Rattle.il_values.specs.BitStrings.{hex_word, hex_double}
 use Rattle.il_model.specs.Kinds.{kind_name}
 use Rattle.il_model.specs.Codes.{is_empty}
 use Rattle.il_model.specs.Program.{Program}

@@ -1,7 +1,7 @@
 //! Literals and locations, written.
 
 ghost use Rattle.il_model.specs.declared.program.Loc.TheVariants as places;
-ghost use Rattle.il_model.specs.BitStrings.{hex_double};
+ghost use Rattle.il_values.specs.BitStrings.{hex_double};
 ghost use Rattle.il_lister.specs.Listing.{literal_text, location_text};
 ghost use Rattle.il_lister.specs.Writing.{Writes};
 

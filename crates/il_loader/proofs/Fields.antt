@@ -7,16 +7,16 @@ use Rattle.std.proofs.lemmas.Bool.{cases_lt, ltb-false, le-ltb, leb-true}
 use Rattle.std.proofs.lemmas.Int.{of_z-to_z}
 use Rattle.std.proofs.lemmas.List.{take_at, drop_at, take-append-drop, length-append, length-take, get_or-drop, get_or-take, get_or_past}
 use Rattle.std.proofs.lemmas.Nat.{be_bytes_2, be_bytes_4, be_bytes_8, from_be_bytes-to_be_bytes_2, from_be_bytes-to_be_bytes_4, from_be_bytes-to_be_bytes_8}
-use Rattle.il_model.specs.declared.value.Ty.{Ty}
-use Rattle.il_model.specs.declared.value.Ty.TheVariants as types
-use Rattle.il_model.specs.declared.value.Value.{Value}
+use Rattle.il_values.specs.declared.value.Ty.{Ty}
+use Rattle.il_values.specs.declared.value.Ty.TheVariants as types
+use Rattle.il_values.specs.declared.value.Value.{Value}
 use Rattle.il_model.specs.declared.codes.Version.{Version}
 use Rattle.il_model.specs.declared.codes.Version.TheVariants as versions
 use Rattle.il_model.specs.declared.program.Variable.{Variable}
 use Rattle.il_model.specs.declared.program.Loc.{Loc}
 use Rattle.il_model.specs.declared.coded_operand.CodedOperand.{CodedOperand}
 use Rattle.il_model.specs.declared.coded_operand.CodedOperand.TheVariants as coded
-use Rattle.il_model.specs.Values.{typed_value, ty_of, number_of}
+use Rattle.il_values.specs.Values.{typed_value, ty_of, number_of}
 use Rattle.il_model.specs.CodedOperands.{code_of, with_code}
 use Rattle.il_model.specs.Image.{type_code, location_code, number_width, number_bytes}
 use Rattle.il_model.proofs.CodedOperands.{coded_back}

@@ -9,14 +9,14 @@ use Rattle.std.specs.Int.{w8, w16, to_be_bytes}
 use Rattle.std.proofs.lemmas.Bool.{ltb-false, ltb-true, lt-ltb, le-ltb, eqb-true}
 use Rattle.std.proofs.lemmas.List.{take_at, drop_at, take-append-drop, length-append, length-take, append-nil}
 use Rattle.std.proofs.lemmas.List.Concat.{flat_map-cons}
-use Rattle.il_model.specs.declared.value.Ty.{Ty}
-use Rattle.il_model.specs.declared.value.Ty.TheVariants as types
-use Rattle.il_model.specs.declared.value.Value.{Value}
-use Rattle.il_model.specs.declared.op.Op.{Op}
-use Rattle.il_model.specs.declared.op.Op.TheVariants as ops
-use Rattle.il_model.specs.declared.function.Function.TheVariants as functions
-use Rattle.il_model.specs.declared.shift.Shift.TheVariants as shifts
-use Rattle.il_model.specs.declared.op.Modifier.{Modifier}
+use Rattle.il_values.specs.declared.value.Ty.{Ty}
+use Rattle.il_values.specs.declared.value.Ty.TheVariants as types
+use Rattle.il_values.specs.declared.value.Value.{Value}
+use Rattle.il_values.specs.declared.op.Op.{Op}
+use Rattle.il_values.specs.declared.op.Op.TheVariants as ops
+use Rattle.il_values.specs.declared.function.Function.TheVariants as functions
+use Rattle.il_values.specs.declared.shift.Shift.TheVariants as shifts
+use Rattle.il_values.specs.declared.op.Modifier.{Modifier}
 use Rattle.il_model.specs.declared.codes.Version.{Version}
 use Rattle.il_model.specs.declared.kind.BlockKind.{BlockKind}
 use Rattle.il_model.specs.declared.kind.BlockKind.TheVariants as kinds
@@ -27,15 +27,17 @@ use Rattle.il_model.specs.declared.program.Side.{Side}
 use Rattle.il_model.specs.declared.program.Side.TheVariants as sides
 use Rattle.il_model.specs.declared.program.Operand.{Operand}
 use Rattle.il_model.specs.declared.program.Instr.{Instr}
-use Rattle.il_model.specs.Values.{ty_of, number_of}
+use Rattle.il_values.specs.Values.{ty_of, number_of}
 use Rattle.il_model.specs.Kinds.{block_kinds, kind_code, kind_of_code}
 use Rattle.il_model.specs.Program.{Declarations}
 use Rattle.il_model.specs.Marks.{Mark}
-use Rattle.il_model.specs.Image.{type_code, location_code, name_bytes, type_version, value_version, op_version, may_have, may_lie, may_retain, may_call, may_declare, may_instantiate, declared_code, may_keep, may_name, number_bytes, variable_bytes, instance_bytes, mark_bytes, constant_bytes, op_code, modifier_code, side_code, coded_word}
-use Rattle.il_model.specs.Codes.{is_new_name, is_new_instance, is_new_label, length_in, type_of, type_in, retained_in, plain_code, coded_location, coded_location_in, initial_of, constant_of, usage_of, allowed_by, op_of, op_in, modifier_of, letters_of, label_there, word_operand, word_operand_in, side_of, argument_number, argument_operand, argument_operand_in}
+use Rattle.il_model.specs.Image.{type_code, location_code, name_bytes, type_version, value_version, op_version, may_have, may_lie, may_retain, may_call, may_declare, may_instantiate, declared_code, may_keep, may_name, number_bytes, variable_bytes, instance_bytes, mark_bytes, constant_bytes, modifier_code, side_code, coded_word}
+use Rattle.il_values.specs.OpCodes.{op_code}
+use Rattle.il_model.specs.Codes.{is_new_name, is_new_instance, is_new_label, length_in, type_of, type_in, retained_in, plain_code, coded_location, coded_location_in, initial_of, constant_of, usage_of, allowed_by, op_in, modifier_of, letters_of, label_there, word_operand, word_operand_in, side_of, argument_number, argument_operand, argument_operand_in}
+use Rattle.il_values.specs.OpCodes.{op_of}
 use Rattle.il_model.specs.Fits.{IsVariable, IsInstance, IsMark, IsConstant, IsCoded, AreItems}
 use Rattle.il_model.proofs.BlockKinds.{kind_of_code-kind_code}
-use Rattle.il_model.proofs.OpCodes.{op_is}
+use Rattle.il_values.proofs.OpCodes.{op_is}
 use Rattle.il_model.proofs.RowTypes.{and_yes}
 use Rattle.il_model.proofs.NameLengths.{length_kept, length_wide}
 use Rattle.il_model.proofs.Retained.{plain_again, declared_small, retained_again, code_is}

@@ -6,12 +6,12 @@ use Rattle.std.specs.List.{position, AllByRecursion, filter_map, cons_option, fl
 use Rattle.std.specs.Option.{option_map, option_and_then}
 use Rattle.std.proofs.lemmas.Bool.{ltb-true, ltb-false, lt-ltb, eqb-true, eq-eqb, false_from_ne_true, le-leb}
 use Rattle.std.proofs.lemmas.Slice.Eq.{bytes_eq-Decides}
-use Rattle.il_model.specs.declared.value.Ty.{Ty}
-use Rattle.il_model.specs.declared.value.Ty.TheVariants as types
-use Rattle.il_model.specs.declared.value.Value.{Value}
-use Rattle.il_model.specs.declared.value.Value.TheVariants as values
-use Rattle.il_model.specs.declared.op.Op.{Op}
-use Rattle.il_model.specs.declared.op.Op.TheVariants as ops
+use Rattle.il_values.specs.declared.value.Ty.{Ty}
+use Rattle.il_values.specs.declared.value.Ty.TheVariants as types
+use Rattle.il_values.specs.declared.value.Value.{Value}
+use Rattle.il_values.specs.declared.value.Value.TheVariants as values
+use Rattle.il_values.specs.declared.op.Op.{Op}
+use Rattle.il_values.specs.declared.op.Op.TheVariants as ops
 use Rattle.il_model.specs.declared.kind.BlockKind.{BlockKind}
 use Rattle.il_model.specs.declared.kind.Field.{Field}
 use Rattle.il_model.specs.declared.program.Area.{Area}
@@ -34,9 +34,9 @@ use Rattle.il_model.specs.declared.typing.OperandKind.TheVariants as kinds
 use Rattle.il_model.specs.declared.codes.OperandForm.TheVariants as forms
 use Rattle.il_model.specs.declared.coded_operand.CodedOperand.{CodedOperand}
 use Rattle.il_model.specs.declared.coded_operand.CodedOperand.TheVariants as coded
-use Rattle.il_model.specs.Values.{ty_of, zero_of, number_of, typed_value}
-use Rattle.il_model.specs.Operators.{is_zero}
-use Rattle.il_model.proofs.RealValues.{real_same}
+use Rattle.il_values.specs.Values.{ty_of, zero_of, number_of, typed_value}
+use Rattle.il_values.specs.Operators.{is_zero}
+use Rattle.il_values.proofs.RealValues.{real_same}
 use Rattle.il_real.specs.Reals.{zero_real}
 use Rattle.il_model.specs.Words.{AreDistinct, same_name, is_lawful_name}
 use Rattle.il_model.specs.Locations.{area_of, begins_double, parts_of, is_nameable}

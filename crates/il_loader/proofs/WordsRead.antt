@@ -10,7 +10,8 @@ use Rattle.il_model.specs.Program.{Program, declared_by}
 use Rattle.il_model.specs.Resolved.{called_kind}
 use Rattle.il_model.specs.Marks.{marks_from}
 use Rattle.il_model.specs.Constants.{constants_of}
-use Rattle.il_model.specs.Image.{op_code, modifier_code, operand_code, coded_word, word_bytes, argument_bytes, instruction_bytes}
+use Rattle.il_model.specs.Image.{modifier_code, operand_code, coded_word, word_bytes, argument_bytes, instruction_bytes}
+use Rattle.il_values.specs.OpCodes.{op_code}
 use Rattle.il_model.specs.Codes.{is_call, is_pointless}
 use Rattle.il_model.specs.Fits.{IsPassing, IsCoded, IsWord, AreItems}
 use Rattle.il_model.proofs.Positions.{position_first, position_later}

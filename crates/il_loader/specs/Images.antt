@@ -2,15 +2,15 @@
 use Rattle.std.specs.Prelude.{◌≡◌, ◌<◌, ◌≤◌, ℕ, false, true, List, ◌++◌, length, map, get_or, Some, is_some, Result, Ok}
 use Rattle.std.specs.List.{AllByRecursion, filter_map, flat_map}
 use Rattle.il_model.specs.declared.limits.TheConstants.{LONGEST_DOTTED_NAME}
-use Rattle.il_model.specs.declared.value.Value.{Value}
+use Rattle.il_values.specs.declared.value.Value.{Value}
 use Rattle.il_model.specs.declared.program.Loc.{Loc}
 use Rattle.il_model.specs.declared.program.Variable.{Variable}
 use Rattle.il_model.specs.declared.program.Instance.{Instance}
 use Rattle.il_model.specs.declared.program.Operand.{Operand}
 use Rattle.il_model.specs.declared.program.Instr.{Instr}
-use Rattle.il_model.specs.declared.op.Op.TheVariants as ops
+use Rattle.il_values.specs.declared.op.Op.TheVariants as ops
 use Rattle.il_model.specs.declared.program.Operand.TheVariants as operands
-use Rattle.il_model.specs.Values.{ty_of, zero_of, number_of, typed_value}
+use Rattle.il_values.specs.Values.{ty_of, zero_of, number_of, typed_value}
 use Rattle.il_model.specs.Words.{AreDistinct, is_lawful_name}
 use Rattle.il_model.specs.Locations.{area_of, parts_of, is_nameable}
 use Rattle.il_model.specs.Program.{Program, IsSmall}

@@ -3,7 +3,7 @@ use Rattle.std.specs.Prelude.{◌≡◌, ℕ, ℤ, ◌-◌, zero, suc, Bool, tru
 use Rattle.std.specs.Prelude.{Option, Some, None, Result, Ok, Err, nat_lt, nat_le, nat_eq, if◌then◌else◌}
 use Rattle.std.specs.Int.{Width, w8, w16, w32, byte_len, from_be_bytes, cast_signed}
 use Rattle.il_model.specs.declared.limits.TheConstants.{MOST_VARIABLES, MOST_INSTANCES, MOST_INSTRUCTIONS}
-use Rattle.il_model.specs.declared.value.Ty.{Ty}
+use Rattle.il_values.specs.declared.value.Ty.{Ty}
 use Rattle.il_model.specs.declared.program.Loc.{Loc}
 use Rattle.il_model.specs.declared.program.Variable.{Variable}
 use Rattle.il_model.specs.declared.program.Instance.{Instance}
@@ -13,7 +13,7 @@ use Rattle.il_model.specs.Image.{magic, number_width, may_call}
 use Rattle.il_model.specs.declared.codes.Version.{Version}
 use Rattle.il_model.specs.Kinds.{kind_of_code}
 use Rattle.il_loader.specs.declared.word.Content.TheVariants as contents
-use Rattle.il_model.specs.declared.value.Value.{Value}
+use Rattle.il_values.specs.declared.value.Value.{Value}
 use Rattle.il_model.specs.Marks.{Mark}
 use Rattle.il_model.specs.Codes.{is_new_name, is_new_instance, is_new_label, length_in, type_in, version_numbered}
 use Rattle.il_model.specs.Codes.{coded_location_in, initial_of, constant_of, op_in, letters_of, label_there}

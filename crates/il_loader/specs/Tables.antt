@@ -1,7 +1,7 @@
 -- The tables of an image, as they are read.
 use Rattle.std.specs.Prelude.{Bool, true, false, List, [], ◌∷◌, Option, ℕ, ◌++◌, Some, None}
 use Rattle.il_model.specs.declared.codes.Version.{Version}
-use Rattle.il_model.specs.declared.value.Value.{Value}
+use Rattle.il_values.specs.declared.value.Value.{Value}
 use Rattle.il_model.specs.declared.kind.BlockKind.{BlockKind}
 use Rattle.il_model.specs.declared.program.Variable.{Variable}
 use Rattle.il_model.specs.declared.program.Instance.{Instance}

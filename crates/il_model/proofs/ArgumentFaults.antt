@@ -4,8 +4,8 @@ use Rattle.std.specs.Prelude.{map, nat_lt, ◌||◌, ℤ}
 use Rattle.std.specs.List.{list_any}
 use Rattle.std.proofs.lemmas.Bool.{ltb-true, ltb-false, le-ltb}
 use Rattle.std.proofs.lemmas.List.{take_more, drop_more, map-append}
-use Rattle.il_model.specs.declared.value.Ty.{Ty}
-use Rattle.il_model.specs.declared.value.Value.{Value}
+use Rattle.il_values.specs.declared.value.Ty.{Ty}
+use Rattle.il_values.specs.declared.value.Value.{Value}
 use Rattle.il_model.specs.declared.kind.BlockKind.{BlockKind}
 use Rattle.il_model.specs.declared.kind.Field.{Field}
 use Rattle.il_model.specs.declared.program.Argument.{Argument}
@@ -20,7 +20,7 @@ use Rattle.il_model.specs.declared.typing.OperandKind.TheVariants as kinds
 use Rattle.il_model.specs.Program.{Program}
 use Rattle.il_model.specs.Words.{same_name}
 use Rattle.il_model.specs.Kinds.{field_type, any_field}
-use Rattle.il_model.specs.Values.{typed_value}
+use Rattle.il_values.specs.Values.{typed_value}
 use Rattle.il_model.specs.Row.{same_type}
 use Rattle.il_model.specs.Constants.{operand_literal}
 use Rattle.il_model.specs.Typing.{kind_field}

@@ -11,7 +11,7 @@ use Rattle.il_model.specs.declared.program.DoubleType.{DoubleType}
 use Rattle.il_model.specs.declared.program.DoubleType.TheVariants as doubles
 use Rattle.il_model.specs.declared.coded_operand.CodedOperand.{CodedOperand}
 use Rattle.il_model.specs.declared.coded_operand.CodedOperand.TheVariants.{Location, Variable, Field, Constant, Unused}
-use Rattle.il_model.specs.declared.value.Ty.{Ty}
+use Rattle.il_values.specs.declared.value.Ty.{Ty}
 use Rattle.il_model.specs.declared.program.Variable as declarations
 use Rattle.il_model.specs.Locations.{begins_double}
 use Rattle.il_model.specs.Typing.{loc_type}

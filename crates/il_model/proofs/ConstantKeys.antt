@@ -8,12 +8,12 @@ use Rattle.std.proofs.lemmas.Int.{ints}
 use Rattle.std.proofs.lemmas.List.Quantifiers.{position-Some}
 use Rattle.std.specs.BTreeMap as tree
 use Rattle.std.specs.BTreeMap.{BTreeMap}
-use Rattle.il_model.specs.declared.value.Value.{Value}
-use Rattle.il_model.specs.declared.value.Value.TheVariants as values
-use Rattle.il_model.specs.Operators.{same_number}
+use Rattle.il_values.specs.declared.value.Value.{Value}
+use Rattle.il_values.specs.declared.value.Value.TheVariants as values
+use Rattle.il_values.specs.Operators.{same_number}
 use Rattle.il_model.specs.Constants.{same_value}
 use Rattle.il_model.specs.Tables.{key_of, key_cmp, place_in, IsConstantTable}
-use Rattle.il_model.proofs.RealValues.{real_same}
+use Rattle.il_values.proofs.RealValues.{real_same}
 use Rattle.il_model.proofs.Positions.{position_behind, position_past, position_kept}
 
 number_key : (a b : ℤ) → is_eq (int_cmp a b) ≡ same_number b a

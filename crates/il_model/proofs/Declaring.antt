@@ -4,12 +4,12 @@ use Rattle.std.specs.Prelude.{ℤ, pos, negsuc, map, slice_get, ◌||◌}
 use Rattle.std.specs.Option.{option_map, option_and_then}
 use Rattle.std.specs.List.{list_any, AllByRecursion}
 use Rattle.std.proofs.lemmas.Option.{slice_get_within}
-use Rattle.il_model.specs.declared.value.Ty.{Ty}
-use Rattle.il_model.specs.declared.value.Ty.TheVariants as types
-use Rattle.il_model.specs.declared.value.Value.{Value}
-use Rattle.il_model.specs.declared.value.Value.TheVariants as values
-use Rattle.il_model.specs.declared.op.Op.{Op}
-use Rattle.il_model.specs.declared.op.Modifier.{Modifier}
+use Rattle.il_values.specs.declared.value.Ty.{Ty}
+use Rattle.il_values.specs.declared.value.Ty.TheVariants as types
+use Rattle.il_values.specs.declared.value.Value.{Value}
+use Rattle.il_values.specs.declared.value.Value.TheVariants as values
+use Rattle.il_values.specs.declared.op.Op.{Op}
+use Rattle.il_values.specs.declared.op.Modifier.{Modifier}
 use Rattle.il_model.specs.declared.codes.OperandForm.{OperandForm}
 use Rattle.il_model.specs.declared.codes.OperandForm.TheVariants as forms
 use Rattle.il_model.specs.declared.codes.Usage.{Usage}
@@ -22,7 +22,7 @@ use Rattle.il_model.specs.declared.program.Operand.{Operand}
 use Rattle.il_model.specs.declared.program.Operand.TheVariants as operands
 use Rattle.il_model.specs.declared.program.Instr.{Instr}
 use Rattle.il_model.specs.Program.{Program, Declarations, declared_by}
-use Rattle.il_model.specs.Values.{ty_of, number_of, is_within, typed_value, bare_value}
+use Rattle.il_values.specs.Values.{ty_of, number_of, is_within, typed_value, bare_value}
 use Rattle.il_model.specs.Kinds.{any_field, field_type}
 use Rattle.il_model.specs.Typing.{Shape}
 use Rattle.il_model.specs.Checking.{shape_at, typing_end, HasNoTypeFault}
@@ -34,8 +34,8 @@ use Rattle.il_model.specs.Declarable as declarable
 use Rattle.il_model.specs.Settled.{wanted_type, settled_number, settled_as, settled_operand, settled_passing, settled_argument, settled_line, typed_program_of, is_bare, has_bare, IsTypedProgramOf}
 use Rattle.il_model.proofs.TypedLines.{bind_ok, ok_before}
 use Rattle.il_model.proofs.Judged.{arrives, faultless}
-use Rattle.il_model.proofs.RealValues.{real_is, real_again, bare_made}
-use Rattle.il_model.proofs.BitValues.{bits_are, bits_again}
+use Rattle.il_values.proofs.RealValues.{real_is, real_again, bare_made}
+use Rattle.il_values.proofs.BitValues.{bits_are, bits_again}
 use Rattle.il_model.proofs.Lawful.{lawful_image}
 use Rattle.il_model.proofs.SettledPrograms.{typed_plain, typed_program}
 

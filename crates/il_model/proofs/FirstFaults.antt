@@ -5,11 +5,11 @@ use Rattle.std.specs.List.{list_any, list_all}
 use Rattle.std.specs.Option.{option_and_then}
 use Rattle.std.proofs.lemmas.Bool.{ltb-true, lt-ltb, le-ltb}
 use Rattle.std.proofs.lemmas.List.Folds.{list_any-append}
-use Rattle.il_model.specs.declared.value.Ty.{Ty}
-use Rattle.il_model.specs.declared.value.Ty.TheVariants as types
-use Rattle.il_model.specs.declared.op.Op.{Op}
-use Rattle.il_model.specs.declared.op.Op.TheVariants as ops
-use Rattle.il_model.specs.declared.op.Modifier.{Modifier}
+use Rattle.il_values.specs.declared.value.Ty.{Ty}
+use Rattle.il_values.specs.declared.value.Ty.TheVariants as types
+use Rattle.il_values.specs.declared.op.Op.{Op}
+use Rattle.il_values.specs.declared.op.Op.TheVariants as ops
+use Rattle.il_values.specs.declared.op.Modifier.{Modifier}
 use Rattle.il_model.specs.declared.kind.BlockKind.{BlockKind}
 use Rattle.il_model.specs.declared.kind.Field.{Field}
 use Rattle.il_model.specs.declared.program.Argument.{Argument}
@@ -27,13 +27,13 @@ use Rattle.il_model.specs.declared.typing.Effect.TheVariants.{Sets}
 use Rattle.il_model.specs.Program.{Program}
 use Rattle.il_model.specs.Words.{same_name}
 use Rattle.il_model.specs.Kinds.{field_type}
-use Rattle.il_model.specs.Operators.{joined_type}
+use Rattle.il_values.specs.Operators.{joined_type}
 use Rattle.il_model.specs.Codes.{is_jump, is_call}
 use Rattle.il_model.specs.Resolved.{source_of, target_of, called_kind}
-use Rattle.il_model.specs.Values.{is_bit_string}
+use Rattle.il_values.specs.Values.{is_bit_string}
 use Rattle.il_model.specs.Row.{row, same_type, is_bool, negatable, load_row, store_row, set_row, not_row, truth_row, leave_row, jump_row, call_row, close_row, closes_to, convert_row, opened_row, opens_with, combine_row, sets_to, function_row}
-use Rattle.il_model.specs.declared.function.Function.{Function}
-use Rattle.il_model.specs.Functions.{function_type}
+use Rattle.il_values.specs.declared.function.Function.{Function}
+use Rattle.il_values.specs.Functions.{function_type}
 use Rattle.il_model.specs.Typing.{Shape, kind_field, shape_on_arrival}
 use Rattle.il_model.specs.Checking.{◌>>=◌, top_of, source_kind, missing_kind, operand_kind, source_row, without_effect, fault_rank, first_fault, passing_fault, goes_so, field_fault, argument_fault, arguments_fault, with_fault, line_row_of, line_row, label_at, label_row, shape_after, after_line}
 use Rattle.il_model.specs.InstructionFaults.{leaves, is_closing, writes, combines, has_operand, needs_result, is_target, is_instance, is_no_field, may_be_written, result_is, both_are, joins, begins_inside, takes, if_goes_so, argument_field, is_field_bad, is_output_side, is_unwritable, is_of_field, is_mismatched, has_twins, is_doubled, applies, IsFirst, TellsFirst}

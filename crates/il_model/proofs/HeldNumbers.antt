@@ -4,12 +4,12 @@ use Rattle.std.specs.Prelude.{ℤ, pos, negsuc, option_map}
 use Rattle.std.specs.Option.{option_and_then}
 use Rattle.std.proofs.Math.Nat.{mul-le-mul_left}
 use Rattle.std.proofs.lemmas.Bool.{cases_lt, le-ltb, ltb-false}
-use Rattle.il_model.specs.declared.value.Ty.TheVariants as types
+use Rattle.il_values.specs.declared.value.Ty.TheVariants as types
 use Rattle.il_model.specs.declared.duration.TimeUnit.{TimeUnit}
-use Rattle.il_model.specs.declared.value.Value.{Value}
-use Rattle.il_model.specs.declared.value.Value.TheVariants as values
-use Rattle.il_model.specs.Values.{is_within, bits_made}
-use Rattle.il_model.specs.Words.{spells}
+use Rattle.il_values.specs.declared.value.Value.{Value}
+use Rattle.il_values.specs.declared.value.Value.TheVariants as values
+use Rattle.il_values.specs.Values.{is_within, bits_made}
+use Rattle.il_values.specs.Spelled.{spells}
 use Rattle.il_model.specs.Literals.{integer_of, held_integer, PartText, unit_of, unit_len, digits_len, fraction_of}
 use Rattle.il_model.specs.Literals.{plain_part, broken_part, at_unit, at_decimals, begins_dot, behind_number, part_by}
 use Rattle.il_model.specs.Literals.{past_join, sum_of_parts, parts_by, duration_by, positive, minus, signed_by, hash_at}

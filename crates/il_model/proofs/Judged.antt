@@ -8,11 +8,11 @@ use Rattle.std.proofs.lemmas.List.{nil_from_length}
 use Rattle.std.proofs.lemmas.List.Folds.{list_any-append}
 use Rattle.std.proofs.lemmas.Slice.Eq.{bytes_eq-Decides}
 use Rattle.il_model.specs.declared.limits.TheConstants.{MOST_OPEN_PARENTHESES}
-use Rattle.il_model.specs.declared.value.Ty.{Ty}
-use Rattle.il_model.specs.declared.value.Ty.TheVariants as types
-use Rattle.il_model.specs.declared.op.Op.{Op}
-use Rattle.il_model.specs.declared.op.Op.TheVariants as ops
-use Rattle.il_model.specs.declared.op.Modifier.{Modifier}
+use Rattle.il_values.specs.declared.value.Ty.{Ty}
+use Rattle.il_values.specs.declared.value.Ty.TheVariants as types
+use Rattle.il_values.specs.declared.op.Op.{Op}
+use Rattle.il_values.specs.declared.op.Op.TheVariants as ops
+use Rattle.il_values.specs.declared.op.Modifier.{Modifier}
 use Rattle.il_model.specs.declared.program.Place.{Place}
 use Rattle.il_model.specs.declared.program.Operand.{Operand}
 use Rattle.il_model.specs.declared.program.Operand.TheVariants as operands
@@ -32,15 +32,15 @@ use Rattle.il_model.specs.declared.typing.Held.{Held}
 use Rattle.il_model.specs.declared.typing.Effect.{Effect}
 use Rattle.il_model.specs.declared.typing.Effect.TheVariants.{Sets, Opens, Closes}
 use Rattle.il_model.specs.Program.{Program}
-use Rattle.il_model.specs.Values.{ty_of}
+use Rattle.il_values.specs.Values.{ty_of}
 use Rattle.il_model.specs.Kinds.{kind_fields, field_type, is_input}
 use Rattle.il_model.specs.Words.{same_name, AreDistinct}
-use Rattle.il_model.specs.Operators.{joined_type}
+use Rattle.il_values.specs.Operators.{joined_type}
 use Rattle.il_model.specs.Resolved.{source_of, target_of, place_of, field_of, instance_number, is_labelled, called_kind}
-use Rattle.il_model.specs.Values.{is_bit_string}
+use Rattle.il_values.specs.Values.{is_bit_string}
 use Rattle.il_model.specs.Row.{row, same_type, is_bool, negatable, load_row, store_row, set_row, truth_row, not_row, leave_row, jump_row, call_row, close_row, closes_to, convert_row, open_row, opened_row, opens_with, combine_row, sets_to, outside, function_row}
 use Rattle.il_model.specs.Typing as Typing
-use Rattle.il_model.specs.declared.function.Function.{Function}
+use Rattle.il_values.specs.declared.function.Function.{Function}
 use Rattle.il_model.specs.Typing.{Shape, place_type, is_writable, source_type, HasType, MayStore, Leaves, Converts, Applies, Begins, Operates, Takes, Passes, kind_field, IsPassed, ArePassed, MayStand, Leads, shape_on_arrival, Arrives, IsTyped}
 use Rattle.il_model.specs.Checking.{◌>>=◌, source_kind, typed_kind, operand_kind, missing_kind, top_of, source_row, unless_same, passing_fault, goes_so, field_fault, first_fault, argument_fault, arguments_fault, with_fault, line_row, label_at, label_row, shape_after, after_line, after_at, shape_at, typing_end, HasNoTypeFault}
 use Rattle.il_model.proofs.RowTypes.{guarded, typed_kind_is, load_typed, same_type_is, store_typed, set_typed, truth_typed_row, combine_typed, no_close, opened_typed, closes_typed, convert_typed, call_typed, function_typed, not_typed_row}

@@ -8,15 +8,15 @@ use Rattle.std.proofs.lemmas.List.{length-append, append-nil}
 use Rattle.std.proofs.lemmas.Option.{slice_get-get_or}
 use Rattle.std.proofs.lemmas.List.Quantifiers.{position-Some}
 use Rattle.std.proofs.lemmas.Slice.Eq.{bytes_eq-Decides}
-use Rattle.il_model.specs.declared.value.Ty.{Ty}
-use Rattle.il_model.specs.declared.value.Ty.TheVariants as types
-use Rattle.il_model.specs.declared.value.Value.{Value}
-use Rattle.il_model.specs.declared.value.Value.TheVariants as values
-use Rattle.il_model.specs.declared.op.Op.{Op}
-use Rattle.il_model.specs.declared.op.Op.TheVariants as ops
-use Rattle.il_model.specs.declared.function.Function.TheVariants as functions
-use Rattle.il_model.specs.declared.shift.Shift.TheVariants as shifts
-use Rattle.il_model.specs.declared.op.Modifier.{Modifier}
+use Rattle.il_values.specs.declared.value.Ty.{Ty}
+use Rattle.il_values.specs.declared.value.Ty.TheVariants as types
+use Rattle.il_values.specs.declared.value.Value.{Value}
+use Rattle.il_values.specs.declared.value.Value.TheVariants as values
+use Rattle.il_values.specs.declared.op.Op.{Op}
+use Rattle.il_values.specs.declared.op.Op.TheVariants as ops
+use Rattle.il_values.specs.declared.function.Function.TheVariants as functions
+use Rattle.il_values.specs.declared.shift.Shift.TheVariants as shifts
+use Rattle.il_values.specs.declared.op.Modifier.{Modifier}
 use Rattle.il_model.specs.declared.kind.BlockKind.{BlockKind}
 use Rattle.il_model.specs.declared.kind.Field.{Field}
 use Rattle.il_model.specs.declared.program.Variable.{Variable}
@@ -33,8 +33,8 @@ use Rattle.il_model.specs.declared.codes.LetterSet.{LetterSet}
 use Rattle.il_model.specs.declared.codes.LetterSet.TheVariants as letters
 use Rattle.il_model.specs.declared.codes.OperandForm.{OperandForm}
 use Rattle.il_model.specs.declared.codes.OperandForm.TheVariants as forms
-use Rattle.il_model.specs.Values.{ty_of, number_of, typed_value}
-use Rattle.il_model.specs.Operators.{same_truth, same_number}
+use Rattle.il_values.specs.Values.{ty_of, number_of, typed_value}
+use Rattle.il_values.specs.Operators.{same_truth, same_number}
 use Rattle.il_model.specs.Words.{same_name, is_lawful_name}
 use Rattle.il_model.specs.Kinds.{field_name}
 use Rattle.il_model.specs.Program.{Program, Declarations, declared_by}
@@ -44,11 +44,13 @@ use Rattle.il_model.specs.Checking.{shape_at, typing_end, label_row, arguments_f
 use Rattle.il_model.specs.Marks.{Mark, with_mark, word_count, words_in, address_of, marks_from}
 use Rattle.il_model.specs.Constants.{same_value, operand_literal, joined_constants, constants_from, operands_in, operands_of, constants_of}
 use Rattle.il_model.specs.CodedOperands.{code_of}
-use Rattle.il_model.specs.Image.{type_code, op_code, flag, modifier_code, numbered, coded_literal, coded_operand, number_or_unused, operand_code}
-use Rattle.il_model.specs.Codes.{if_passes, type_of, is_known, usage_of, allows, has_form, allowed_by, formed_by, op_of, modifier_of, letters_of, named_operand, value_operand, label_there, is_jump, is_call, numbered_operand}
+use Rattle.il_model.specs.Image.{type_code, flag, modifier_code, numbered, coded_literal, coded_operand, number_or_unused, operand_code}
+use Rattle.il_values.specs.OpCodes.{op_code}
+use Rattle.il_model.specs.Codes.{if_passes, type_of, is_known, usage_of, allows, has_form, allowed_by, formed_by, modifier_of, letters_of, named_operand, value_operand, label_there, is_jump, is_call, numbered_operand}
+use Rattle.il_values.specs.OpCodes.{op_of}
 use Rattle.il_model.specs.Fits.{IsVariable, IsInstance, IsMark, IsConstant, IsPassing, IsWord, AreItems, IsImage}
 use Rattle.il_model.specs.Lawful.{IsOperand, IsLabel, IsPassed, IsLawful, AreLawful}
-use Rattle.il_model.proofs.RealValues.{real_same}
+use Rattle.il_values.proofs.RealValues.{real_same}
 use Rattle.il_model.proofs.TypedLines.{bind_ok, ok_before, typed_line, IsArgumentOf, arguments_typed, no_arguments}
 use Rattle.il_model.proofs.Judged.{first_by, faultless}
 use Rattle.il_model.proofs.Positions.{position_front, found_in_front, found_last, position_later, position_first}

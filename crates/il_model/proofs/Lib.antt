@@ -1,7 +1,3 @@
-pub mod RealValues
-pub mod BitValues
-pub mod Shifts
-pub mod OpCodes
 pub mod RowTypes
 pub mod TypedLines
 pub mod Room

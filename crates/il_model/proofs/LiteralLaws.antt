@@ -2,18 +2,18 @@
 use Rattle.std.proofs.Common.{◌≡◌, ℕ, ◌+◌, ◌^◌, Bool, true, false, cond, ltb, List, length, take, drop, Option, Some, None, refl, subst, ◌||◌, codes}
 use Rattle.std.specs.Prelude.{ℤ, pos, negsuc, option_map}
 use Rattle.std.specs.Option.{option_and_then}
-use Rattle.il_model.specs.declared.value.Ty.{Ty}
-use Rattle.il_model.specs.declared.value.Ty.TheVariants as types
-use Rattle.il_model.specs.declared.value.Value.{Value}
-use Rattle.il_model.specs.declared.value.Value.TheVariants as values
+use Rattle.il_values.specs.declared.value.Ty.{Ty}
+use Rattle.il_values.specs.declared.value.Ty.TheVariants as types
+use Rattle.il_values.specs.declared.value.Value.{Value}
+use Rattle.il_values.specs.declared.value.Value.TheVariants as values
 use Rattle.il_model.specs.declared.program.Loc.{Loc}
 use Rattle.il_model.specs.declared.literal.Literal.{Literal}
 use Rattle.il_model.specs.declared.literal.Literal.TheVariants.{Bare, Typed}
-use Rattle.il_model.specs.Values.{ty_of, number_of, is_within, truth_made, typed_value}
-use Rattle.il_model.specs.Words.{spells}
+use Rattle.il_values.specs.Values.{ty_of, number_of, is_within, truth_made, typed_value}
+use Rattle.il_values.specs.Spelled.{spells}
 use Rattle.il_model.specs.Codes.{may_start_with, initial_of}
-use Rattle.il_model.proofs.RealValues.{real_is, real_again}
-use Rattle.il_model.proofs.BitValues.{bits_are, bits_again}
+use Rattle.il_values.proofs.RealValues.{real_is, real_again}
+use Rattle.il_values.proofs.BitValues.{bits_are, bits_again}
 use Rattle.il_model.specs.declared.dialect.Dialect.{Dialect}
 use Rattle.il_model.specs.declared.dialect.Dialect.TheVariants as dialects
 use Rattle.il_model.specs.Dialects.{literal_in}

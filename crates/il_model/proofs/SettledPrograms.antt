@@ -6,12 +6,12 @@ use Rattle.std.proofs.lemmas.List.{length-map}
 use Rattle.std.specs.Option.{option_map, option_and_then}
 use Rattle.std.proofs.lemmas.Bool.{ltb-true, ltb-false, lt-ltb, le-ltb}
 use Rattle.std.proofs.lemmas.Option.{slice_get_within, slice_get_past}
-use Rattle.il_model.specs.declared.value.Ty.{Ty}
-use Rattle.il_model.specs.declared.value.Ty.TheVariants as types
-use Rattle.il_model.specs.declared.value.Value.{Value}
-use Rattle.il_model.specs.declared.value.Value.TheVariants as values
-use Rattle.il_model.specs.declared.op.Op.{Op}
-use Rattle.il_model.specs.declared.op.Modifier.{Modifier}
+use Rattle.il_values.specs.declared.value.Ty.{Ty}
+use Rattle.il_values.specs.declared.value.Ty.TheVariants as types
+use Rattle.il_values.specs.declared.value.Value.{Value}
+use Rattle.il_values.specs.declared.value.Value.TheVariants as values
+use Rattle.il_values.specs.declared.op.Op.{Op}
+use Rattle.il_values.specs.declared.op.Modifier.{Modifier}
 use Rattle.il_model.specs.declared.program.Variable.{Variable}
 use Rattle.il_model.specs.declared.program.Instance.{Instance}
 use Rattle.il_model.specs.declared.program.Operand.{Operand}
@@ -30,13 +30,13 @@ use Rattle.il_model.specs.declared.typing.OperandKind.TheVariants as kinds
 use Rattle.il_model.specs.declared.typing.Held.{Held}
 use Rattle.il_model.specs.declared.typing.Effect.{Effect}
 use Rattle.il_model.specs.Program.{Program}
-use Rattle.il_model.specs.Values.{ty_of, number_of, typed_value, bare_value, truth_made, is_within}
+use Rattle.il_values.specs.Values.{ty_of, number_of, typed_value, bare_value, truth_made, is_within}
 use Rattle.il_model.specs.Resolved.{has_label, target_of, source_of, place_of, instance_in, instance_number, field_in, field_of, called_kind, bears_label, is_labelled}
 use Rattle.il_model.specs.Kinds.{any_field, field_type}
 use Rattle.il_model.specs.Constants.{operand_literal}
 use Rattle.il_model.specs.Row.{row}
-use Rattle.il_model.proofs.RealValues.{real_is, bare_made}
-use Rattle.il_model.proofs.BitValues.{bits_are}
+use Rattle.il_values.proofs.RealValues.{real_is, bare_made}
+use Rattle.il_values.proofs.BitValues.{bits_are}
 use Rattle.il_model.proofs.RowTypes.{some_yes}
 use Rattle.il_model.proofs.TypedLines.{bind_ok, ok_before, typed_line, sourced, fault_none, IsArgumentOf, arguments_typed, no_arguments, is_among}
 use Rattle.il_model.proofs.ArgumentFaults.{literal_by}

@@ -6,25 +6,27 @@ use Rattle.std.specs.Option.{option_and_then}
 use Rattle.std.specs.Int.{w32, w64, cast_signed, cast_unsigned}
 use Rattle.std.proofs.lemmas.Bool.{ltb-true, lt-ltb}
 use Rattle.std.proofs.lemmas.Int.{ints, to_z-of_z}
-use Rattle.il_model.specs.declared.value.Ty.{Ty}
-use Rattle.il_model.specs.declared.value.Ty.TheVariants as types
-use Rattle.il_model.specs.declared.value.Value.{Value}
-use Rattle.il_model.specs.declared.value.Value.TheVariants as values
-use Rattle.il_model.specs.declared.op.Op.{Op}
+use Rattle.il_values.specs.declared.value.Ty.{Ty}
+use Rattle.il_values.specs.declared.value.Ty.TheVariants as types
+use Rattle.il_values.specs.declared.value.Value.{Value}
+use Rattle.il_values.specs.declared.value.Value.TheVariants as values
+use Rattle.il_values.specs.declared.op.Op.{Op}
 use Rattle.il_model.specs.declared.codes.Version.{Version}
 use Rattle.il_model.specs.declared.codes.Version.TheVariants as versions
 use Rattle.il_model.specs.declared.program.Loc.{Loc}
 use Rattle.il_model.specs.declared.program.Variable.{Variable}
 use Rattle.il_model.specs.declared.program.Instance.{Instance}
 use Rattle.il_model.specs.declared.program.Instr.{Instr}
-use Rattle.il_model.specs.Values.{ty_of, number_of, is_within, truth_made, typed_value}
-use Rattle.il_model.specs.Image.{type_code, op_code, version_number, number_width, type_version, value_version, op_version, may_have, may_lie, may_call, may_label, may_declare, may_instantiate, may_keep, may_name, may_write, suffices, version_with}
+use Rattle.il_values.specs.Values.{ty_of, number_of, is_within, truth_made, typed_value}
+use Rattle.il_model.specs.Image.{type_code, version_number, number_width, type_version, value_version, op_version, may_have, may_lie, may_call, may_label, may_declare, may_instantiate, may_keep, may_name, may_write, suffices, version_with}
+use Rattle.il_values.specs.OpCodes.{op_code}
 use Rattle.il_model.specs.Constants.{operands_in}
-use Rattle.il_model.specs.Codes.{if_passes, may_start_with, type_of, type_in, op_of, op_in, version_numbered, initial_of, is_known}
+use Rattle.il_model.specs.Codes.{if_passes, may_start_with, type_of, type_in, op_in, version_numbered, initial_of, is_known}
+use Rattle.il_values.specs.OpCodes.{op_of}
 use Rattle.il_model.specs.Codes.{coded_location, coded_location_in, word_operand, word_operand_in, argument_operand, argument_operand_in}
 use Rattle.il_model.specs.Program.{Declarations}
 use Rattle.il_model.specs.Marks.{Mark}
-use Rattle.il_model.specs.declared.op.Modifier.{Modifier}
+use Rattle.il_values.specs.declared.op.Modifier.{Modifier}
 use Rattle.il_model.specs.declared.program.Operand.{Operand}
 use Rattle.il_model.specs.declared.program.Argument.{Argument}
 use Rattle.std.proofs.lemmas.List.Folds.{list_all-map}
@@ -32,8 +34,8 @@ use Rattle.il_model.specs.Fits.{IsVariable, IsConstant, AreItems}
 use Rattle.il_model.proofs.LiteralLaws.{IsValue}
 use Rattle.il_model.proofs.Lawful.{listed, type_again}
 use Rattle.il_model.proofs.SettledPrograms.{made_number}
-use Rattle.il_model.proofs.RealValues.{real_is}
-use Rattle.il_model.proofs.BitValues.{bits_are, bits_small}
+use Rattle.il_values.proofs.RealValues.{real_is}
+use Rattle.il_values.proofs.BitValues.{bits_are, bits_small}
 use Rattle.il_model.proofs.RowTypes.{and_yes}
 use Rattle.il_real.proofs.Values.{real_small}
 

@@ -2,12 +2,12 @@
 use Rattle.std.proofs.Common.{◌≡◌, true, false, [], ◌∷◌, Some, None, Ok, Err, refl}
 use Rattle.std.specs.Prelude.{pos, negsuc, codes}
 use Rattle.std.specs.Int.{w16, w32}
-use Rattle.il_model.specs.declared.value.Ty.TheVariants as types
-use Rattle.il_model.specs.declared.value.Value.TheVariants as values
-use Rattle.il_model.specs.declared.value.Stop.TheVariants as stops
-use Rattle.il_model.specs.declared.op.Op.TheVariants as ops
-use Rattle.il_model.specs.declared.function.Function.TheVariants as functions
-use Rattle.il_model.specs.declared.shift.Shift.TheVariants as shifts
+use Rattle.il_values.specs.declared.value.Ty.TheVariants as types
+use Rattle.il_values.specs.declared.value.Value.TheVariants as values
+use Rattle.il_values.specs.declared.value.Stop.TheVariants as stops
+use Rattle.il_values.specs.declared.op.Op.TheVariants as ops
+use Rattle.il_values.specs.declared.function.Function.TheVariants as functions
+use Rattle.il_values.specs.declared.shift.Shift.TheVariants as shifts
 use Rattle.il_model.specs.declared.dialect.Dialect.TheVariants as dialects
 use Rattle.il_model.specs.declared.literal.Literal.TheVariants as literals
 use Rattle.il_model.specs.declared.program.Area.TheVariants as areas
@@ -15,17 +15,18 @@ use Rattle.il_model.specs.declared.program.Loc.TheVariants.{Bit, Word, Pattern, 
 use Rattle.il_model.specs.declared.program.DoubleType.TheVariants as doubles
 use Rattle.il_model.specs.declared.program.Variable.{Variable}
 use Rattle.il_model.specs.declared.codes.Version.TheVariants as versions
-use Rattle.il_model.specs.Values.{typed_value, bare_value}
-use Rattle.il_model.specs.Operators.{operation_result, joined_type}
-use Rattle.il_model.specs.Functions.{function_result}
-use Rattle.il_model.specs.BitStrings.{hex_word, hex_double}
-use Rattle.il_model.specs.Words.{spells}
+use Rattle.il_values.specs.Values.{typed_value, bare_value}
+use Rattle.il_values.specs.Operators.{operation_result, joined_type}
+use Rattle.il_values.specs.Functions.{function_result}
+use Rattle.il_values.specs.BitStrings.{hex_word, hex_double}
+use Rattle.il_values.specs.Spelled.{spells}
 use Rattle.il_model.specs.Literals.{are_digits, value_behind, literal_of}
 use Rattle.il_model.specs.Dialects.{literal_in}
 use Rattle.il_model.specs.Settled.{settled_number}
 use Rattle.il_model.specs.Locations.{seen_as}
 use Rattle.il_model.specs.CodedOperands.{loc_code, any_loc}
-use Rattle.il_model.specs.Codes.{is_overlapped, coded_location_in, op_of}
+use Rattle.il_model.specs.Codes.{is_overlapped, coded_location_in}
+use Rattle.il_values.specs.OpCodes.{op_of}
 use Rattle.il_model.specs.Doubles.{double_value, word_value}
 
 -- ---- bit by bit

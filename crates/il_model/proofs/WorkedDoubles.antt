@@ -4,8 +4,8 @@ use Rattle.std.specs.Prelude.{pos, negsuc, codes}
 use Rattle.std.specs.Float.{float_is_finite, is_sign_negative}
 use lib.Ieee.{eq, of_bits}
 use Rattle.il_real.specs.Reals.{with_pattern, zero_real}
-use Rattle.il_model.specs.declared.value.Ty.TheVariants as types
-use Rattle.il_model.specs.declared.value.Value.TheVariants as values
+use Rattle.il_values.specs.declared.value.Ty.TheVariants as types
+use Rattle.il_values.specs.declared.value.Value.TheVariants as values
 use Rattle.il_model.specs.declared.dialect.Dialect.TheVariants as dialects
 use Rattle.il_model.specs.declared.program.Area.TheVariants as areas
 use Rattle.il_model.specs.declared.program.Loc.TheVariants.{Bit, Word, Double}
@@ -13,7 +13,7 @@ use Rattle.il_model.specs.declared.program.DoubleType.TheVariants as doubles
 use Rattle.il_model.specs.declared.program.Variable.{Variable}
 use Rattle.il_model.specs.declared.codes.Version.TheVariants as versions
 use Rattle.il_model.specs.Literals.{are_digits, value_behind}
-use Rattle.il_model.specs.Values.{number_of}
+use Rattle.il_values.specs.Values.{number_of}
 use Rattle.il_model.specs.Locations.{bit_at, word_at, double_at, seen_as}
 use Rattle.il_model.specs.Dialects.{location_in}
 use Rattle.il_model.specs.CodedOperands.{loc_code, any_loc}

@@ -1,12 +1,12 @@
 -- Worked rows of typed programs, step by step, and of others.
 use Rattle.std.proofs.Common.{◌≡◌, ◌<◌, ℕ, true, false, List, [], ◌∷◌, Option, Some, None, Result, Ok, Err, refl, arith}
 use Rattle.std.specs.Prelude.{pos, codes}
-use Rattle.il_model.specs.declared.value.Ty.{Ty}
-use Rattle.il_model.specs.declared.value.Ty.TheVariants as types
-use Rattle.il_model.specs.declared.value.Value.TheVariants as values
-use Rattle.il_model.specs.declared.op.Op.{Op}
-use Rattle.il_model.specs.declared.op.Op.TheVariants as ops
-use Rattle.il_model.specs.declared.op.Modifier.{Modifier}
+use Rattle.il_values.specs.declared.value.Ty.{Ty}
+use Rattle.il_values.specs.declared.value.Ty.TheVariants as types
+use Rattle.il_values.specs.declared.value.Value.TheVariants as values
+use Rattle.il_values.specs.declared.op.Op.{Op}
+use Rattle.il_values.specs.declared.op.Op.TheVariants as ops
+use Rattle.il_values.specs.declared.op.Modifier.{Modifier}
 use Rattle.il_model.specs.declared.kind.BlockKind.TheVariants as kinds
 use Rattle.il_model.specs.declared.program.Area.TheVariants as areas
 use Rattle.il_model.specs.declared.program.Loc.TheVariants.{Bit, Word}

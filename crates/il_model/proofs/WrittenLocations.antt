@@ -6,11 +6,11 @@ use Rattle.il_model.specs.declared.program.Loc.{Loc}
 use Rattle.il_model.specs.declared.program.Loc.TheVariants.{Bit, Word, Pattern, Double}
 use Rattle.il_model.specs.declared.program.DoubleType.{DoubleType}
 use Rattle.il_model.specs.declared.program.DoubleType.TheVariants as doubles
-use Rattle.il_model.specs.declared.value.Ty.{Ty}
-use Rattle.il_model.specs.declared.value.Ty.TheVariants as types
+use Rattle.il_values.specs.declared.value.Ty.{Ty}
+use Rattle.il_values.specs.declared.value.Ty.TheVariants as types
 use Rattle.il_model.specs.declared.dialect.Dialect.{Dialect}
 use Rattle.il_model.specs.declared.dialect.Dialect.TheVariants as dialects
-use Rattle.il_model.specs.Words.{upper}
+use Rattle.il_values.specs.Spelled.{upper}
 use Rattle.il_model.specs.Literals.{integer_of}
 use Rattle.il_model.specs.CodedOperands.{IsCell}
 use Rattle.il_model.specs.Locations.{bit_of, word_of, letter_area, bit_at, word_at, place_at, place_in, dot_at, location_of}

@@ -1,19 +1,12 @@
 -- What answers tell: the numbers of stops and refusals, and the image that is released; which commands are changes.
 use Rattle.std.specs.Prelude.{ℕ, Bool, true, false, Option, Some, None}
 use Rattle.il_model.specs.declared.command.Command.{Command}
-use Rattle.il_model.specs.declared.value.Stop.{Stop}
 use Rattle.il_model.specs.declared.command.Refusal.{Refusal}
 use Rattle.il_model.specs.declared.command.Answer.{Answer}
 use Rattle.il_model.specs.declared.cells.OutImage.{OutImage}
 use Rattle.il_model.specs.declared.command.Command.TheVariants as command
-use Rattle.il_model.specs.declared.value.Stop.TheVariants as stop
 use Rattle.il_model.specs.declared.command.Refusal.TheVariants as refusal
 use Rattle.il_model.specs.declared.command.Answer.TheVariants as answer
-
-abbrev pub stop_number : Stop → ℕ
-stop_number stop.Overflow = 1
-stop_number stop.ZeroDivisor = 2
-stop_number stop.Budget = 3
 
 abbrev pub refusal_number : Refusal → ℕ
 refusal_number refusal.NotHeld = 1

@@ -3,12 +3,12 @@ use Rattle.std.specs.Prelude.{ℕ, zero, suc, ◌-◌, Bool, true, false, not, �
 use Rattle.std.specs.Prelude.{None, ℤ, is_some, is_none, nat_lt, nat_le, nat_eq, if◌then◌else◌}
 use Rattle.std.specs.List.{position, list_any}
 use Rattle.std.specs.Option.{option_map, option_and_then}
-use Rattle.il_model.specs.declared.value.Ty.{Ty}
-use Rattle.il_model.specs.declared.value.Ty.TheVariants as types
-use Rattle.il_model.specs.declared.value.Value.{Value}
-use Rattle.il_model.specs.declared.op.Op.{Op}
-use Rattle.il_model.specs.declared.op.Op.TheVariants as ops
-use Rattle.il_model.specs.declared.op.Modifier.{Modifier}
+use Rattle.il_values.specs.declared.value.Ty.{Ty}
+use Rattle.il_values.specs.declared.value.Ty.TheVariants as types
+use Rattle.il_values.specs.declared.value.Value.{Value}
+use Rattle.il_values.specs.declared.op.Op.{Op}
+use Rattle.il_values.specs.declared.op.Op.TheVariants as ops
+use Rattle.il_values.specs.declared.op.Modifier.{Modifier}
 use Rattle.il_model.specs.declared.codes.TheConstants.{RETAINED}
 use Rattle.il_model.specs.declared.codes.Version.{Version}
 use Rattle.il_model.specs.declared.codes.Version.TheVariants as versions
@@ -27,8 +27,8 @@ use Rattle.il_model.specs.declared.codes.LetterSet.TheVariants as letters
 use Rattle.il_model.specs.declared.codes.OperandForm.{OperandForm}
 use Rattle.il_model.specs.declared.codes.OperandForm.TheVariants as forms
 use Rattle.il_model.specs.declared.codes.Usage.{Usage}
-use Rattle.il_model.specs.Values.{typed_value, number_of}
-use Rattle.il_model.specs.Operators.{is_zero}
+use Rattle.il_values.specs.Values.{typed_value, number_of}
+use Rattle.il_values.specs.Operators.{is_zero}
 use Rattle.il_model.specs.declared.limits.TheConstants.{LONGEST_NAME, LONGEST_DOTTED_NAME}
 use Rattle.il_model.specs.Words.{same_name, is_lawful_name, stands_under}
 use Rattle.il_model.specs.Kinds.{kind_fields, field_name}
@@ -40,11 +40,10 @@ use Rattle.il_model.specs.Typing.{loc_type, is_writable_area}
 use Rattle.il_model.specs.Marks.{Mark}
 use Rattle.il_model.specs.Constants.{same_value}
 use Rattle.il_model.specs.Image.{type_version, op_version, may_have, may_lie, may_retain, may_name}
-use Rattle.il_model.specs.Functions.{function_list}
-use Rattle.il_model.specs.BitStrings.{shift_list}
 use Rattle.il_model.specs.declared.coded_operand.CodedOperand.{CodedOperand}
 use Rattle.il_model.specs.declared.coded_operand.CodedOperand.TheVariants as coded
 use Rattle.il_model.specs.CodedOperands.{loc_code, with_code}
+use Rattle.il_values.specs.OpCodes.{op_of}
 
 abbrev pub if_passes : {A : Type 0} → (A → Bool) → A → Option A
 if_passes test x = if test x then Some x else None
@@ -247,25 +246,6 @@ abbrev pub formed_by : Usage → Modifier → Operand → Bool
 formed_by usage m o = has_form usage.form m.opens o
 
 -- ---- words
-
--- the operators in the order of their codes; 26 and 27 are the codes of arguments, functions have those from 32, and
--- shifts those from 64
-abbrev pub op_list : List Op
-op_list =
-    ops.Empty ∷ ops.Ld ∷ ops.St ∷ ops.S ∷ ops.R ∷ ops.And ∷ ops.Or ∷ ops.Xor ∷ ops.Not ∷
-    ops.Add ∷ ops.Sub ∷ ops.Mul ∷ ops.Div ∷ ops.Mod ∷ ops.Gt ∷ ops.Ge ∷ ops.Eq ∷ ops.Ne ∷ ops.Le ∷ ops.Lt ∷
-    ops.Jmp ∷ ops.Cal ∷ ops.Ret ∷ ops.Close ∷ ops.IntToDint ∷ ops.DintToInt ∷ []
-
-abbrev pub low_op_of : ℕ → Option Op
-low_op_of n = if nat_eq n 28 then Some ops.DintToLint
-    else (if nat_eq n 29 then Some ops.LintToDint
-    else (if nat_eq n 30 then Some ops.Min else (if nat_eq n 31 then Some ops.Max else slice_get op_list n)))
-
--- the operator of a code
-abbrev pub op_of : ℕ → Option Op
-op_of n = if nat_lt n 32 then low_op_of n
-    else (if nat_lt n 64 then option_map ops.Apply (slice_get function_list (n - 32))
-    else option_map ops.Shift (slice_get shift_list (n - 64)))
 
 -- the operator of a code in an image of this version
 abbrev pub op_in : Version → ℕ → Option Op

@@ -2,13 +2,13 @@
 use Rattle.std.specs.Prelude.{ℕ, suc, Bool, false, List, [], ◌∷◌, ◌++◌, map, Option, Some, None, is_some, nat_lt, pos}
 use Rattle.std.specs.Prelude.{nat_eq, if◌then◌else◌}
 use Rattle.std.specs.List.{position, flat_map}
-use Rattle.il_model.specs.declared.value.Value.{Value}
-use Rattle.il_model.specs.declared.value.Value.TheVariants as values
+use Rattle.il_values.specs.declared.value.Value.{Value}
+use Rattle.il_values.specs.declared.value.Value.TheVariants as values
 use Rattle.il_model.specs.declared.program.Instr.{Instr}
 use Rattle.il_model.specs.declared.program.Argument.{Argument}
 use Rattle.il_model.specs.declared.program.Operand.{Operand}
 use Rattle.il_model.specs.declared.program.Operand.TheVariants as operands
-use Rattle.il_model.specs.Operators.{same_truth, same_number}
+use Rattle.il_values.specs.Operators.{same_truth, same_number}
 use Rattle.il_model.specs.Program.{Program}
 
 -- of one type, with one number

@@ -2,14 +2,14 @@
 -- image.
 use Rattle.std.specs.Prelude.{◌≡◌, ◌≤◌, ◌^◌, true, false, [], length}
 use Rattle.std.specs.List.{AllByRecursion}
-use Rattle.il_model.specs.declared.value.Value.TheVariants as values
+use Rattle.il_values.specs.declared.value.Value.TheVariants as values
 use Rattle.il_model.specs.declared.codes.OperandForm.TheVariants as forms
 use Rattle.il_model.specs.declared.program.Argument.{Argument}
 use Rattle.il_model.specs.declared.program.Operand.{Operand}
 use Rattle.il_model.specs.declared.program.Operand.TheVariants as operands
 use Rattle.il_model.specs.declared.program.Instr.{Instr}
 use Rattle.il_model.specs.declared.limits.TheConstants.{MOST_VARIABLES, MOST_INSTANCES, MOST_INSTRUCTIONS}
-use Rattle.il_model.specs.Values.{is_within}
+use Rattle.il_values.specs.Values.{is_within}
 use Rattle.il_model.specs.Program.{Program, Declarations, declared_by}
 use Rattle.il_model.specs.Codes.{usage_of, allowed_by, formed_by, has_form, is_pointless}
 use Rattle.il_model.specs.Lawful.{IsOperandOf, IsLabel}

@@ -3,12 +3,12 @@
 use Rattle.std.specs.Prelude.{ℕ, List, Option, Some, None}
 use Rattle.il_model.specs.declared.dialect.Dialect.{Dialect}
 use Rattle.il_model.specs.declared.dialect.Dialect.TheVariants as dialects
-use Rattle.il_model.specs.declared.function.Function.{Function}
+use Rattle.il_values.specs.declared.function.Function.{Function}
 use Rattle.il_model.specs.declared.literal.Literal.{Literal}
-use Rattle.il_model.specs.declared.op.Op.TheVariants as ops
+use Rattle.il_values.specs.declared.op.Op.TheVariants as ops
 use Rattle.il_model.specs.declared.words.Mnemonic.{Mnemonic}
 use Rattle.il_model.specs.Words.{plain, mnemonic_of, extended_mnemonic_of}
-use Rattle.il_model.specs.Functions.{function_named}
+use Rattle.il_values.specs.Functions.{function_named}
 use Rattle.il_model.specs.Literals.{literal_of, extended_literal_of}
 use Rattle.il_model.specs.declared.program.Loc.{Loc}
 use Rattle.il_model.specs.Locations.{location_of, extended_location_of}

@@ -4,9 +4,9 @@ use Rattle.std.specs.Prelude.{Some}
 use Rattle.std.specs.List.{AllByRecursion}
 use Rattle.std.specs.Option.{option_and_then}
 use Rattle.il_model.specs.declared.codes.Version.TheVariants as versions
-use Rattle.il_model.specs.declared.value.Value.{Value}
-use Rattle.il_model.specs.declared.op.Op.{Op}
-use Rattle.il_model.specs.declared.op.Modifier.{Modifier}
+use Rattle.il_values.specs.declared.value.Value.{Value}
+use Rattle.il_values.specs.declared.op.Op.{Op}
+use Rattle.il_values.specs.declared.op.Modifier.{Modifier}
 use Rattle.il_model.specs.declared.kind.BlockKind.{BlockKind}
 use Rattle.il_model.specs.declared.program.Variable.{Variable}
 use Rattle.il_model.specs.declared.program.Instance.{Instance}
@@ -14,16 +14,18 @@ use Rattle.il_model.specs.declared.program.Argument.{Argument}
 use Rattle.il_model.specs.declared.program.Operand.{Operand}
 use Rattle.il_model.specs.declared.program.Instr.{Instr}
 use Rattle.il_model.specs.declared.limits.TheConstants.{MOST_VARIABLES, MOST_INSTANCES, MOST_INSTRUCTIONS}
-use Rattle.il_model.specs.Values.{ty_of, number_of}
+use Rattle.il_values.specs.Values.{ty_of, number_of}
 use Rattle.il_model.specs.Program.{Program, Declarations, declared_by}
 use Rattle.il_model.specs.Kinds.{field_number}
 use Rattle.il_model.specs.Resolved.{called_kind}
 use Rattle.il_model.specs.Typing.{IsTyped}
 use Rattle.il_model.specs.Marks.{Mark, marks_from, words_in}
 use Rattle.il_model.specs.Constants.{constants_of}
-use Rattle.il_model.specs.Image.{type_code, location_code, op_code, modifier_code, operand_code}
+use Rattle.il_model.specs.Image.{type_code, location_code, modifier_code, operand_code}
+use Rattle.il_values.specs.OpCodes.{op_code}
 use Rattle.il_model.specs.Codes.{length_in, is_new_name, is_new_instance, is_new_label, type_of, coded_location}
-use Rattle.il_model.specs.Codes.{initial_of, constant_of, op_of, letters_of, word_operand, argument_name}
+use Rattle.il_model.specs.Codes.{initial_of, constant_of, letters_of, word_operand, argument_name}
+use Rattle.il_values.specs.OpCodes.{op_of}
 use Rattle.il_model.specs.Codes.{argument_operand, is_call, is_pointless}
 
 -- a variable behind those that were declared before it

@@ -5,14 +5,14 @@ use Rattle.std.specs.Prelude.{Some, None}
 use Rattle.std.specs.Option.{option_map, option_and_then}
 use Rattle.std.specs.List.{flat_map, list_all}
 use Rattle.std.specs.Int.{Width, w8, w16, w32, w64, to_be_bytes, cast_unsigned}
-use Rattle.il_model.specs.declared.value.Ty.{Ty}
-use Rattle.il_model.specs.declared.value.Ty.TheVariants as types
-use Rattle.il_model.specs.declared.op.Op.{Op}
+use Rattle.il_values.specs.declared.value.Ty.{Ty}
+use Rattle.il_values.specs.declared.value.Ty.TheVariants as types
+use Rattle.il_values.specs.declared.op.Op.{Op}
 use Rattle.il_model.specs.declared.codes.TheConstants.{RETAINED}
 use Rattle.il_model.specs.declared.codes.Version.{Version}
 use Rattle.il_model.specs.declared.codes.Version.TheVariants as versions
-use Rattle.il_model.specs.declared.op.Op.TheVariants as ops
-use Rattle.il_model.specs.declared.op.Modifier.{Modifier}
+use Rattle.il_values.specs.declared.op.Op.TheVariants as ops
+use Rattle.il_values.specs.declared.op.Modifier.{Modifier}
 use Rattle.il_model.specs.declared.program.Loc.{Loc}
 use Rattle.il_model.specs.declared.program.Loc.TheVariants.{Pattern, Double}
 use Rattle.il_model.specs.declared.program.Place.{Place}
@@ -26,10 +26,10 @@ use Rattle.il_model.specs.declared.kind.BlockKind.{BlockKind}
 use Rattle.il_model.specs.declared.program.Operand.{Operand}
 use Rattle.il_model.specs.declared.program.Operand.TheVariants as operands
 use Rattle.il_model.specs.declared.program.Instr.{Instr}
-use Rattle.il_model.specs.declared.value.Value.{Value}
+use Rattle.il_values.specs.declared.value.Value.{Value}
 use Rattle.il_model.specs.declared.coded_operand.CodedOperand.{CodedOperand}
 use Rattle.il_model.specs.declared.coded_operand.CodedOperand.TheVariants as coded
-use Rattle.il_model.specs.Values.{ty_of, number_of}
+use Rattle.il_values.specs.Values.{ty_of, number_of}
 use Rattle.il_model.specs.Words.{same_name, has_dot}
 use Rattle.std.specs.List.{position}
 use Rattle.il_model.specs.CodedOperands.{code_of}
@@ -38,8 +38,7 @@ use Rattle.il_model.specs.Kinds.{kind_code, field_number}
 use Rattle.il_model.specs.Resolved.{target_of, instance_in, field_in, called_kind}
 use Rattle.il_model.specs.Marks.{Mark, marks_from, words_in, address_of}
 use Rattle.il_model.specs.Constants.{same_value, constants_of, operands_in}
-use Rattle.il_model.specs.Functions.{function_code}
-use Rattle.il_model.specs.BitStrings.{shift_code}
+use Rattle.il_values.specs.OpCodes.{op_code}
 
 abbrev pub type_code : Ty → ℕ
 type_code types.Bool = 0
@@ -187,40 +186,6 @@ abbrev pub variable_bytes : Version → Variable → List ℕ
 variable_bytes version v = name_bytes v.name
     ++ (to_be_bytes w8 (declared_code v.retained (type_code v.ty))
     ++ (to_be_bytes w16 (location_code v.location) ++ number_bytes version (number_of v.initial)))
-
-abbrev pub op_code : Op → ℕ
-op_code ops.Empty = 0
-op_code ops.Ld = 1
-op_code ops.St = 2
-op_code ops.S = 3
-op_code ops.R = 4
-op_code ops.And = 5
-op_code ops.Or = 6
-op_code ops.Xor = 7
-op_code ops.Not = 8
-op_code ops.Add = 9
-op_code ops.Sub = 10
-op_code ops.Mul = 11
-op_code ops.Div = 12
-op_code ops.Mod = 13
-op_code ops.Gt = 14
-op_code ops.Ge = 15
-op_code ops.Eq = 16
-op_code ops.Ne = 17
-op_code ops.Le = 18
-op_code ops.Lt = 19
-op_code ops.Jmp = 20
-op_code ops.Cal = 21
-op_code ops.Ret = 22
-op_code ops.Close = 23
-op_code ops.IntToDint = 24
-op_code ops.DintToInt = 25
-op_code ops.DintToLint = 28
-op_code ops.LintToDint = 29
-op_code ops.Min = 30
-op_code ops.Max = 31
-op_code (ops.Shift s) = shift_code s
-op_code (ops.Apply f) = function_code f
 
 abbrev pub modifier_code : Modifier → ℕ
 modifier_code m = flag m.negated 1 + (flag m.conditional 2 + flag m.opens 4)

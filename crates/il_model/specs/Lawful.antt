@@ -7,7 +7,7 @@ use Rattle.il_model.specs.declared.program.Argument.{Argument}
 use Rattle.il_model.specs.declared.program.Operand.{Operand}
 use Rattle.il_model.specs.declared.program.Operand.TheVariants as operands
 use Rattle.il_model.specs.declared.program.Instr.{Instr}
-use Rattle.il_model.specs.Values.{typed_value, ty_of, number_of}
+use Rattle.il_values.specs.Values.{typed_value, ty_of, number_of}
 use Rattle.il_model.specs.Words.{is_lawful_name}
 use Rattle.il_model.specs.Program.{Declarations}
 use Rattle.il_model.specs.Resolved.{instance_in}

@@ -1,7 +1,3 @@
-pub mod Values
-pub mod BitStrings
-pub mod Operators
-pub mod Functions
 pub mod Words
 pub mod Locations
 pub mod Doubles

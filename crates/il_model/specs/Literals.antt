@@ -6,15 +6,15 @@ use Rattle.std.specs.List.{prefix_len, list_any}
 use Rattle.std.specs.Option.{option_and_then}
 use Rattle.il_model.specs.declared.duration.TimeUnit.{TimeUnit}
 use Rattle.il_model.specs.declared.duration.TimePart.{TimePart}
-use Rattle.il_model.specs.declared.value.Ty.{Ty}
+use Rattle.il_values.specs.declared.value.Ty.{Ty}
 use Rattle.il_model.specs.declared.literal.Literal.{Literal}
 use Rattle.il_model.specs.declared.literal.Literal.TheVariants.{Bare, Typed}
-use Rattle.il_model.specs.declared.value.Ty.TheVariants as types
-use Rattle.il_model.specs.declared.value.Value.TheVariants as values
-use Rattle.il_model.specs.Words.{upper, spells}
+use Rattle.il_values.specs.declared.value.Ty.TheVariants as types
+use Rattle.il_values.specs.declared.value.Value.TheVariants as values
+use Rattle.il_values.specs.Spelled.{upper, spells}
 use Rattle.il_real.specs.declared.real.Real.{Real}
 use Rattle.il_real.specs.Literals.{real_literal}
-use Rattle.il_model.specs.Values.{is_within, typed_value}
+use Rattle.il_values.specs.Values.{is_within, typed_value}
 
 -- ---- digits (B.1.2.1)
 

@@ -3,8 +3,8 @@ use Rattle.std.specs.Prelude.{replicate, false, true, pos, ℕ, suc, ◌+◌, �
 use Rattle.std.specs.Prelude.{take, drop}
 use Rattle.std.specs.Prelude.{Option, Some, None, nat_lt, nat_eq, if◌then◌else◌}
 use Rattle.std.specs.List.{prefix_len}
-use Rattle.il_model.specs.declared.value.Ty.{Ty}
-use Rattle.il_model.specs.declared.value.Ty.TheVariants as types
+use Rattle.il_values.specs.declared.value.Ty.{Ty}
+use Rattle.il_values.specs.declared.value.Ty.TheVariants as types
 use Rattle.il_model.specs.declared.program.Area.{Area}
 use Rattle.il_model.specs.declared.program.Loc.{Loc}
 use Rattle.il_model.specs.declared.program.Loc.TheVariants.{Bit, Word, Pattern, Double}
@@ -15,7 +15,7 @@ use Rattle.il_model.specs.declared.cells.Cells.{Cells}
 use Rattle.il_model.specs.declared.cells.InImage.{InImage}
 use Rattle.il_model.specs.declared.cells.OutImage.{OutImage}
 use Rattle.il_model.specs.declared.program.Area.TheVariants as areas
-use Rattle.il_model.specs.Words.{upper}
+use Rattle.il_values.specs.Spelled.{upper}
 use Rattle.il_model.specs.Literals.{integer_of}
 
 abbrev pub area_of : Loc → Area

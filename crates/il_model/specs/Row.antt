@@ -1,11 +1,11 @@
 -- The types that each instruction needs, and leaves; the faults in their order.
 use Rattle.std.specs.Prelude.{ℕ, ◌<◌, Bool, true, false, not, ◌&&◌, ◌||◌, Option, Some, None, Result, Ok, Err, nat_lt}
 use Rattle.std.specs.Prelude.{is_none, if◌then◌else◌}
-use Rattle.il_model.specs.declared.value.Ty.{Ty}
-use Rattle.il_model.specs.declared.value.Ty.TheVariants as types
-use Rattle.il_model.specs.declared.op.Op.{Op}
-use Rattle.il_model.specs.declared.op.Op.TheVariants as ops
-use Rattle.il_model.specs.declared.op.Modifier.{Modifier}
+use Rattle.il_values.specs.declared.value.Ty.{Ty}
+use Rattle.il_values.specs.declared.value.Ty.TheVariants as types
+use Rattle.il_values.specs.declared.op.Op.{Op}
+use Rattle.il_values.specs.declared.op.Op.TheVariants as ops
+use Rattle.il_values.specs.declared.op.Modifier.{Modifier}
 use Rattle.il_model.specs.declared.typing.TypeFault.{TypeFault}
 use Rattle.il_model.specs.declared.typing.TypeFault.TheVariants.{TypeMismatch, NoCurrentResult, UnknownLabel}
 use Rattle.il_model.specs.declared.typing.TypeFault.TheVariants.{Unbalanced, TooDeep, NotWritable, BadField}
@@ -15,10 +15,10 @@ use Rattle.il_model.specs.declared.typing.Held.{Held}
 use Rattle.il_model.specs.declared.typing.Effect.{Effect}
 use Rattle.il_model.specs.declared.typing.Effect.TheVariants.{Sets, Opens, Closes}
 use Rattle.il_model.specs.declared.limits.TheConstants.{MOST_OPEN_PARENTHESES}
-use Rattle.il_model.specs.declared.function.Function.{Function}
-use Rattle.il_model.specs.Values.{is_bit_string}
-use Rattle.il_model.specs.Operators.{joined_type}
-use Rattle.il_model.specs.Functions.{function_type}
+use Rattle.il_values.specs.declared.function.Function.{Function}
+use Rattle.il_values.specs.Values.{is_bit_string}
+use Rattle.il_values.specs.Operators.{joined_type}
+use Rattle.il_values.specs.Functions.{function_type}
 
 abbrev pub same_type : Ty → Ty → Bool
 same_type types.Bool types.Bool = true

@@ -1,6 +1,6 @@
 -- A snapshot of a controller, as its definitions see it.
 use Rattle.std.specs.Prelude.{ℕ, List, Option}
-use Rattle.il_model.specs.declared.value.Value.{Value}
+use Rattle.il_values.specs.declared.value.Value.{Value}
 use Rattle.il_model.specs.declared.kind.BlockKind.{BlockKind}
 use Rattle.il_model.specs.declared.cells.Cells.{Cells}
 use Rattle.il_model.specs.declared.fetched.Deferred.{Deferred}

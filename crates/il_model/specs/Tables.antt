@@ -9,11 +9,11 @@ use Rattle.std.specs.declared.cmp.Ordering.{Ordering}
 use Rattle.std.specs.BTreeSet.{BTreeSet}
 use Rattle.std.specs.BTreeSet as sorted
 use denote.Ref.{Bor}
-use Rattle.il_model.specs.declared.value.Value.{Value}
+use Rattle.il_values.specs.declared.value.Value.{Value}
 use Rattle.il_model.specs.declared.program.Variable.{Variable}
 use Rattle.il_model.specs.Program.{Program}
 use Rattle.il_model.specs.Resolved.{variable_number, instance_number, target_of}
-use Rattle.il_model.specs.Values.{ty_of, number_of}
+use Rattle.il_values.specs.Values.{ty_of, number_of}
 use Rattle.il_model.specs.Constants.{same_value}
 use Rattle.il_model.specs.Image.{type_code}
 use Rattle.il_model.specs.Codes.{is_taken}

@@ -4,11 +4,11 @@ use Rattle.std.specs.Prelude.{is_some, nat_lt, slice_get, if◌then◌else◌}
 use Rattle.std.specs.List.{AllByRecursion}
 use Rattle.std.specs.Option.{option_map, option_and_then}
 use Rattle.il_model.specs.declared.limits.TheConstants.{BITS, WORDS, MOST_OPEN_PARENTHESES}
-use Rattle.il_model.specs.declared.value.Ty.{Ty}
-use Rattle.il_model.specs.declared.value.Ty.TheVariants as types
-use Rattle.il_model.specs.declared.op.Op.{Op}
-use Rattle.il_model.specs.declared.op.Op.TheVariants as ops
-use Rattle.il_model.specs.declared.op.Modifier.{Modifier}
+use Rattle.il_values.specs.declared.value.Ty.{Ty}
+use Rattle.il_values.specs.declared.value.Ty.TheVariants as types
+use Rattle.il_values.specs.declared.op.Op.{Op}
+use Rattle.il_values.specs.declared.op.Op.TheVariants as ops
+use Rattle.il_values.specs.declared.op.Modifier.{Modifier}
 use Rattle.il_model.specs.declared.program.Area.{Area}
 use Rattle.il_model.specs.declared.program.Area.TheVariants as areas
 use Rattle.il_model.specs.declared.program.Loc.{Loc}
@@ -29,14 +29,14 @@ use Rattle.il_model.specs.declared.fetched.Source.{Source}
 use Rattle.il_model.specs.declared.fetched.Source.TheVariants as sources
 use Rattle.il_model.specs.declared.typing.Held.{Held}
 use Rattle.il_model.specs.Program.{Program}
-use Rattle.il_model.specs.Values.{ty_of, is_bit_string}
+use Rattle.il_values.specs.Values.{ty_of, is_bit_string}
 use Rattle.il_model.specs.Locations.{area_of, begins_double}
 use Rattle.il_model.specs.Doubles.{double_type}
 use Rattle.il_model.specs.Kinds.{kind_fields, field_number, field_type, is_input}
 use Rattle.il_model.specs.Words.{AreDistinct}
-use Rattle.il_model.specs.declared.function.Function.{Function}
-use Rattle.il_model.specs.Operators.{joined_type}
-use Rattle.il_model.specs.Functions.{function_type}
+use Rattle.il_values.specs.declared.function.Function.{Function}
+use Rattle.il_values.specs.Operators.{joined_type}
+use Rattle.il_values.specs.Functions.{function_type}
 use Rattle.il_model.specs.Resolved.{source_of, target_of, is_labelled, called_kind}
 
 -- ---- operands

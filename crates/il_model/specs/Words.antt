@@ -1,26 +1,16 @@
 -- Words, without regard to case: those of operators (IEC 61131-3:2003, table 52), and which are names (2.1.2).
-use Rattle.std.specs.Prelude.{ℕ, ◌-◌, List, [], ◌∷◌, ◌++◌, Bool, true, false, ◌&&◌, ◌==◌, nat_le, Option, Some, None}
+use Rattle.std.specs.Prelude.{ℕ, List, [], ◌∷◌, ◌++◌, Bool, true, false, ◌&&◌, ◌==◌, nat_le, Option, Some, None}
 use Rattle.std.specs.Prelude.{if◌then◌else◌, codes, ◌≡◌, not, ◌||◌, length, is_some, nat_lt, nat_eq}
 use Rattle.std.specs.List.{AllByRecursion, list_all, list_any}
 use Rattle.std.specs.Str.{bytes_eq}
-use Rattle.il_model.specs.declared.op.Op.{Op}
-use Rattle.il_model.specs.declared.op.Modifier.{Modifier}
+use Rattle.il_values.specs.declared.op.Op.{Op}
+use Rattle.il_values.specs.declared.op.Modifier.{Modifier}
 use Rattle.il_model.specs.declared.words.Mnemonic.{Mnemonic}
-use Rattle.il_model.specs.declared.op.Op.TheVariants as ops
-use Rattle.il_model.specs.declared.shift.Shift.TheVariants as shifts
+use Rattle.il_values.specs.declared.op.Op.TheVariants as ops
+use Rattle.il_values.specs.declared.shift.Shift.TheVariants as shifts
 use Rattle.il_model.specs.declared.limits.TheConstants.{LONGEST_NAME}
 use Rattle.il_model.specs.Kinds.{kind_of_name}
-
--- a byte, a small letter as its capital one
-abbrev pub upper : ℕ → ℕ
-upper b = if nat_le 97 b && nat_le b 122 then b - 32 else b
-
--- a word in capital letters, spelled in either case
-unfoldable pub spells : List ℕ → List ℕ → Bool
-spells [] [] = true
-spells [] (b ∷ bs) = false
-spells (k ∷ ks) [] = false
-spells (k ∷ ks) (b ∷ bs) = upper b == k && spells ks bs
+use Rattle.il_values.specs.Spelled.{spells}
 
 abbrev pub plain : Modifier
 plain = record { negated = false; conditional = false; opens = false }

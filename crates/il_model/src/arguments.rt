@@ -12,10 +12,8 @@ ghost use Rattle.il_model.specs.Settled.{settled_argument, as_settled};
 
 use crate::indexed::IndexedProgram;
 use crate::resolve::{kind_of, missing_kind};
-use crate::value::make;
-use crate::{
-    Argument, BlockKind, Effect, Field, Name, Operand, OperandKind, Side, Ty, TypeFault, Value,
-};
+use crate::{Argument, BlockKind, Effect, Field, Name, Operand, OperandKind, Side, TypeFault};
+use il_values::{Ty, Value, make};
 
 fn rank(fault: TypeFault) -> u8
     ensures { result ≡ fault_rank fault }

@@ -16,8 +16,9 @@ use crate::indexed::IndexedProgram;
 use crate::limits::MOST_OPEN_PARENTHESES;
 use crate::resolve::{kind_of, missing_kind};
 use crate::typing::row_of;
-use crate::{Effect, Held, Instr, Name, Program, Source, Ty, TypeFault};
+use crate::{Effect, Held, Instr, Name, Program, Source, TypeFault};
 use arrayvec::ArrayVec;
+use il_values::Ty;
 use std::marker::Model;
 
 fn label_at(first: Option<u16>, n: usize, depth: usize) -> Result<(), TypeFault>

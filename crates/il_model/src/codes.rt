@@ -4,7 +4,8 @@ ghost use Rattle.std.specs.Prelude.{◌≡◌, ◌<◌, ◌^◌, Some, false};
 ghost use Rattle.std.specs.List.{list_all};
 ghost use Rattle.il_model.specs.declared.codes.OperandForm.TheVariants as forms;
 ghost use Rattle.il_model.specs.declared.program.Argument.{Argument};
-ghost use Rattle.il_model.specs.Image.{type_code, location_code, op_code, version_number, type_version, op_version};
+ghost use Rattle.il_model.specs.Image.{type_code, location_code, version_number, type_version, op_version};
+ghost use Rattle.il_values.specs.OpCodes.{op_code};
 ghost use Rattle.il_model.specs.Image.{location_version, place_version, operand_version, retained_version, may_have};
 ghost use Rattle.il_model.specs.Image.{may_lie, may_retain, may_declare, may_instantiate, may_keep, declared_code};
 ghost use Rattle.il_model.specs.Image.{name_version, may_call, may_label};
@@ -13,16 +14,16 @@ ghost use Rattle.il_model.specs.Image.{modifier_code, side_code};
 ghost use Rattle.il_model.specs.Constants.{operands_in};
 ghost use Rattle.il_model.specs.Codes.{longest_name, length_in};
 ghost use Rattle.il_model.specs.Codes.{type_of, type_in, op_in, version_numbered, is_type, may_start_with};
-ghost use Rattle.il_model.specs.Codes.{initial_of, op_of, modifier_of, usage_of, allows, has_form, allowed_by};
+ghost use Rattle.il_model.specs.Codes.{initial_of, modifier_of, usage_of, allows, has_form, allowed_by};
+ghost use Rattle.il_values.specs.OpCodes.{op_of};
 ghost use Rattle.il_model.specs.Codes.{formed_by, letters_of, side_of, is_pointless, retained_in, plain_code};
 
 use crate::coded_operand::CodedOperand;
 use crate::limits::{LONGEST_DOTTED_NAME, LONGEST_NAME};
 use crate::name::{Name, has_dot};
-use crate::op::{Modifier, Op};
 use crate::program::{Argument, Instance, Instr, Loc, Operand, Side, Variable};
 use crate::resolve::in_writable_area;
-use crate::value::{Ty, Value, make};
+use il_values::{Modifier, Op, Ty, Value, make};
 
 /// How each image begins.
 pub const MAGIC: [u8; 4] = *b"ILPC";

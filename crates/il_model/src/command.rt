@@ -3,7 +3,7 @@
 use crate::cells::{InImage, OutImage};
 use crate::image_bytes::ImageBytes;
 use crate::slot::Slot;
-use crate::value::{Stop, Value};
+use il_values::{Stop, Value};
 use std::alloc::{AllocError, Global};
 
 /// A command. A position counts instructions from 0.

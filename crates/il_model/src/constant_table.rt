@@ -3,8 +3,8 @@
 ghost use Rattle.std.specs.Prelude.{◌≡◌, ◌++◌, [], ◌∷◌, OnOk};
 ghost use Rattle.il_model.specs.Tables.{key_of, place_in, IsConstantTable};
 
-use crate::Value;
 use crate::codes::type_code;
+use il_values::Value;
 use std::alloc::{AllocError, Global};
 use std::collections::BTreeMap;
 use std::marker::Model;

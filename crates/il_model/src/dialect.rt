@@ -2,16 +2,15 @@
 
 ghost use Rattle.std.specs.Prelude.{◌≡◌};
 ghost use Rattle.il_model.specs.Words.{plain, extended_mnemonic_of};
-ghost use Rattle.il_model.specs.Functions.{function_named};
+ghost use Rattle.il_values.specs.Functions.{function_named};
 ghost use Rattle.il_model.specs.Dialects.{applied, or_function, operator_in, literal_in, location_in};
 
-use crate::function::{Function, function_from};
 use crate::literal::Literal;
 use crate::location::{extended_location, location};
-use crate::op::{Modifier, Op};
 use crate::program::Loc;
 use crate::words::{Mnemonic, extended_mnemonic_from, mnemonic_from};
 use crate::written::{extended_literal, literal};
+use il_values::{Function, Modifier, Op, function_from};
 
 /// What may stand in a text: the words and literals of every text, or those and REAL, bit strings, MIN, MAX, shifts, the
 /// functions and double words.

@@ -7,8 +7,8 @@ ghost use Rattle.il_model.specs.Doubles.{word_value};
 ghost use Rattle.il_model.specs.Locations.{double_as, word_as, seen_as};
 
 use crate::program::{Area, DoubleType, Loc};
-use crate::value::{Ty, Value};
 use il_real::Real;
+use il_values::{Ty, Value};
 
 fn pattern_of_words(high: i16, low: i16) -> u32
     ensures { result ≡ pattern_of_words high low }

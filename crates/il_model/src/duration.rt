@@ -6,7 +6,7 @@ ghost use Rattle.il_model.specs.Literals.{digit_list, whole_part, fraction_of, p
 ghost use Rattle.il_model.specs.Literals.{at_decimals, begins_dot, behind_number, part_by, past_join, duration_by};
 
 use crate::literal::{digit, integer};
-use crate::words::{capital, is_spelled};
+use il_values::{capital, is_spelled};
 
 /// A unit of time: how high it ranks, from milliseconds (0) to days (4), and how many milliseconds it has.
 #[derive(Clone, Copy, PartialEq, Eq)]

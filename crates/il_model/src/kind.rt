@@ -7,7 +7,7 @@ ghost use Rattle.il_model.specs.declared.kind.BlockKind.{BlockKind};
 ghost use Rattle.il_model.specs.Kinds.{kind_code, kind_of_code, kind_name, kind_of_name, kind_fields, field_name};
 ghost use Rattle.il_model.specs.Kinds.{field_type, is_input, any_field, field_number, input_count};
 
-use crate::value::Ty;
+use il_values::Ty;
 
 /// A kind of function block, in the order of the codes.
 #[derive(Clone, Copy, Debug, PartialEq, Eq)]

@@ -1,6 +1,6 @@
 //! The words of the language: plain types of an Instruction List program (IEC 61131-3:2003, 3.2), its tables of
 //! operators, types and codes, and the definitions that all other crates cite: values, operators, names, typing, the
-//! image's spelling. Of this repository it uses il_real, the values of REAL.
+//! image's spelling. Of this repository it uses il_real, and il_values, whose names it exports too.
 //!
 //! ```rust
 //! use il_model::{Op, Stop, Value, operate};
@@ -9,12 +9,11 @@
 //! assert_eq!(rt; operate(Op::Add, Value::Int(32767), Value::Int(1)), Some(Err(Stop::Overflow)));
 //! ```
 //!
-//! Proved: each table of the code is its definition. An operator gives its result on unbounded numbers, or the stop
-//! where that doesn't fit; each code is read back as what it was written for, and the two words of a double word as the
-//! value that they were made of; `literal_from` gives exactly the value of a literal. `check_types` finds no fault
-//! exactly where a program is typed, which a relation says that names none (`know_typed`, `specs/Typing`), else it
-//! tells the fault of the least instruction, and which that is is a law too (`the_first_fault_is_told`). A program has
-//! at most one typed program (`settling`).
+//! Proved: each table of the code is its definition. Each code is read back as what it was written for, and the two
+//! words of a double word as the value that they were made of; `literal_from` gives exactly the value of a literal.
+//! `check_types` finds no fault exactly where a program is typed, which a relation says that names none (`know_typed`,
+//! `specs/Typing`), else it tells the fault of the least instruction, and which that is is a law too
+//! (`the_first_fault_is_told`). A program has at most one typed program (`settling`).
 //!
 //! Only tested: nothing; rows of `tests_rows` show it at work.
 #![tactic(auto)]
@@ -32,7 +31,6 @@ mod double;
 mod duration;
 mod faulty;
 mod fetched;
-mod function;
 mod image_bytes;
 mod indexed;
 mod kind;
@@ -41,15 +39,12 @@ mod literal;
 mod location;
 mod location_table;
 mod name;
-mod op;
 mod program;
 mod resolve;
 mod settle;
-mod shift;
 mod slot;
 mod snapshot;
 mod typing;
-mod value;
 mod words;
 mod written;
 
@@ -101,8 +96,29 @@ pub use fetched::Deferred;
 pub use fetched::Fetched;
 pub use fetched::Passed;
 pub use fetched::Source;
-pub use function::Function;
-pub use function::function_from;
+pub use il_values::Function;
+pub use il_values::Modifier;
+pub use il_values::Op;
+pub use il_values::Shift;
+pub use il_values::Stop;
+pub use il_values::Ty;
+pub use il_values::Unbounded;
+pub use il_values::Value;
+pub use il_values::calculate;
+pub use il_values::capital;
+pub use il_values::function_from;
+pub use il_values::halves;
+pub use il_values::hex_word;
+pub use il_values::is_spelled;
+pub use il_values::long_divided;
+pub use il_values::long_rest;
+pub use il_values::make;
+pub use il_values::make_bare;
+pub use il_values::operate;
+pub use il_values::real_within;
+pub use il_values::reals;
+pub use il_values::truths;
+pub use il_values::within;
 pub use image_bytes::ImageBytes;
 pub use indexed::IndexedProgram;
 pub use kind::BlockKind;
@@ -131,17 +147,6 @@ pub use name::is_well_spelled;
 pub use name::split_last;
 pub use name::stands_under;
 pub use name::under;
-pub use op::Modifier;
-pub use op::Op;
-pub use op::Unbounded;
-pub use op::calculate;
-pub use op::long_divided;
-pub use op::long_rest;
-pub use op::operate;
-pub use op::real_within;
-pub use op::reals;
-pub use op::truths;
-pub use op::within;
 pub use program::Area;
 pub use program::Argument;
 pub use program::Arguments;
@@ -157,9 +162,6 @@ pub use program::Variable;
 pub use resolve::kind_of;
 pub use resolve::loc_type;
 pub use settle::settling;
-pub use shift::Shift;
-pub use shift::halves;
-pub use shift::hex_word;
 pub use slot::Slot;
 pub use snapshot::ForcedSlot;
 pub use snapshot::SavedInstance;
@@ -170,14 +172,7 @@ pub use typing::Held;
 pub use typing::OperandKind;
 pub use typing::TypeFault;
 pub use typing::row_of;
-pub use value::Stop;
-pub use value::Ty;
-pub use value::Value;
-pub use value::make;
-pub use value::make_bare;
 pub use words::Mnemonic;
-pub use words::capital;
-pub use words::is_spelled;
 pub use words::mnemonic_from;
 pub use written::extended_literal as extended_literal_from;
 pub use written::literal as literal_from;

@@ -3,7 +3,7 @@
 ghost use Rattle.std.specs.Prelude.{◌≡◌, ◌≤◌, ◌<◌, IfSome};
 ghost use Rattle.il_model.specs.Literals.{digit_of, held_integer};
 
-use crate::value::Value;
+use il_values::Value;
 
 /// A literal: a bare number, which takes the type that its place asks for, or a value.
 #[derive(Clone, Copy, Debug, PartialEq, Eq)]

@@ -9,7 +9,7 @@ ghost use Rattle.il_model.specs.Locations.{begins_double, extended_location_of};
 use crate::limits::WORDS;
 use crate::literal::integer;
 use crate::program::{Area, DoubleType, Loc};
-use crate::words::capital;
+use il_values::capital;
 
 fn bit(area: Area, byte: Option<u64>, bit: Option<u64>) -> Option<Loc>
     ensures { result ≡ bit_of area byte bit }

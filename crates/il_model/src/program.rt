@@ -6,8 +6,7 @@ use crate::kind::BlockKind;
 use crate::limits::{BITS, MOST_INSTANCES, MOST_INSTRUCTIONS, MOST_VARIABLES, WORDS};
 use crate::location::begins_double;
 use crate::name::Name;
-use crate::op::{Modifier, Op};
-use crate::value::{Ty, Value};
+use il_values::{Modifier, Op, Ty, Value};
 use std::marker::Model;
 
 /// How far the words of an area stand behind its first bit.

@@ -8,7 +8,8 @@ ghost use Rattle.il_model.specs.Locations.{area_of};
 
 use crate::limits::{BITS, WORDS};
 use crate::location::begins_double;
-use crate::{Area, Field, Loc, Operand, OperandKind, Place, Program, Source, Ty};
+use crate::{Area, Field, Loc, Operand, OperandKind, Place, Program, Source};
+use il_values::Ty;
 
 /// The type of a location: BOOL for a bit, INT for a word, WORD for its pattern, its own for a double word; none past its
 /// area.

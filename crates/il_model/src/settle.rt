@@ -13,7 +13,8 @@ use crate::arguments::{arguments_fault, with_fault};
 use crate::check::{Types, label_row, source_row};
 use crate::indexed::IndexedProgram;
 use crate::typing::{row_of, settle};
-use crate::{Effect, Held, Instr, Operand, OperandKind, Program, Ty, TypeFault, Value};
+use crate::{Effect, Held, Instr, Operand, OperandKind, Program, TypeFault};
+use il_values::{Ty, Value};
 
 /// The literal that an operand is, once a bare number has the type that its place asks for.
 fn settled_literal(cr: Option<Ty>, line: &Instr) -> Option<Value>

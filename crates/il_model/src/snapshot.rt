@@ -6,7 +6,7 @@ use crate::cells::Cells;
 use crate::fetched::Deferred;
 use crate::kind::BlockKind;
 use crate::slot::Slot;
-use crate::value::{Stop, Value};
+use il_values::{Stop, Value};
 use std::alloc::{AllocError, Global};
 use std::marker::Model;
 

@@ -6,10 +6,8 @@ ghost use Rattle.il_model.specs.Row.{negatable, not_row};
 ghost use Rattle.il_model.specs.Row.{row, load_row, store_row, set_row, truth_row, call_row, open_row, opened_row};
 ghost use Rattle.il_model.specs.Row.{combine_row, close_row, leave_row, convert_row, function_row};
 
-use crate::function::Function;
 use crate::limits::MOST_OPEN_PARENTHESES;
-use crate::op::{Modifier, Op, joined};
-use crate::value::{Ty, Value, make_bare};
+use il_values::{Function, Modifier, Op, Ty, Value, joined, make_bare};
 use thiserror::Error;
 
 /// Why a program is not typed.

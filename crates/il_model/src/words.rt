@@ -1,10 +1,9 @@
 //! The words that operators are written as (IEC 61131-3:2003, table 52), without regard to case.
 
 ghost use Rattle.std.specs.Prelude.{◌≡◌, map};
-ghost use Rattle.il_model.specs.Words.{upper, spells, look, mnemonic_of, extended_mnemonic_of};
+ghost use Rattle.il_model.specs.Words.{look, mnemonic_of, extended_mnemonic_of};
 
-use crate::op::{Modifier, Op};
-use crate::shift::Shift;
+use il_values::{Modifier, Op, Shift, is_spelled};
 
 /// An operator as it is written in one word: the operator and its letters N and C. A parenthesis is no part of the
 /// word.
@@ -90,30 +89,6 @@ pub static EXTENDED_MNEMONICS: [(&[u8], Op, Modifier); 6] = [
     (b"ROL", Op::Shift(Shift::RotateLeft), PLAIN),
     (b"ROR", Op::Shift(Shift::RotateRight), PLAIN),
 ];
-
-/// A byte, a small letter as its capital one.
-pub fn capital(b: u8) -> u8
-    ensures { result ≡ upper b }
-{
-    if b'a' <= b && b <= b'z' { b - 32 } else { b }
-}
-
-/// Whether a text is a word, which is given in capital letters, without regard to case.
-#[tactic(auto, unfolding(crate::specs::Words::spells))]
-pub fn is_spelled(word: &[u8], text: &[u8]) -> bool
-    ensures { result ≡ spells word.now text.now }
-{
-    let mut keys = word;
-    let mut letters = text;
-    while let [k, others @ ..] = keys {
-        match letters {
-            [b, more @ ..] if capital(*b) == *k => letters = more,
-            _ => return false,
-        }
-        keys = others;
-    }
-    letters.is_empty()
-}
 
 #[tactic(auto, unfolding(crate::specs::Words::look))]
 fn looked_up(table: &[(&[u8], Op, Modifier)], text: &[u8]) -> Option<Mnemonic>

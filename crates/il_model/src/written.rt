@@ -4,17 +4,16 @@ ghost use Rattle.std.specs.Prelude.{◌≡◌, ◌≤◌, ◌<◌, ◌^◌, leng
 ghost use Rattle.il_model.specs.Literals.{held_integer, positive, minus, signed_by, is_no_hash, hash_at, based_by};
 ghost use Rattle.il_model.specs.Literals.{whole_by, time_by, truth_literal, typed_literal, bare_literal};
 ghost use Rattle.il_model.specs.Literals.{prefixed_literal, is_word, literal_by, literal_of, has_point, typed_real};
-ghost use Rattle.il_model.specs.declared.value.Ty.TheVariants as types;
+ghost use Rattle.il_values.specs.declared.value.Ty.TheVariants as types;
 ghost use Rattle.il_model.specs.Literals.{integer_of};
 ghost use Rattle.il_model.specs.Literals.{extended_prefixed, extended_plain, extended_literal_of};
 ghost use Rattle.il_real.specs.Literals.{real_literal};
-ghost use Rattle.il_model.specs.Values.{typed_value};
+ghost use Rattle.il_values.specs.Values.{typed_value};
 
 use crate::duration::duration;
 use crate::literal::{Literal, integer};
-use crate::value::{Ty, Value, make};
-use crate::words::is_spelled;
 use il_real::real_from;
+use il_values::{Ty, Value, is_spelled, make};
 
 fn above(n: Option<u128>) -> Option<i128>
     requires { IfSome n (λ n. n < 2 ^ 127) }

@@ -9,7 +9,7 @@ use Rattle.il_reader.specs.declared.lexeme.Sign.TheVariants as signs
 use Rattle.il_reader.specs.declared.lexeme.Class.{Class}
 use Rattle.il_reader.specs.declared.lexeme.Class.TheVariants as classes
 use Rattle.il_reader.specs.declared.contents.Operator.{Operator}
-use Rattle.il_model.specs.Words.{spells, upper}
+use Rattle.il_values.specs.Spelled.{spells, upper}
 use Rattle.il_reader.specs.declared.contents.Qualifier.{Qualifier}
 use Rattle.il_reader.specs.declared.contents.Qualifier.TheVariants as qualifiers
 use Rattle.il_model.specs.declared.program.Side.{Side}

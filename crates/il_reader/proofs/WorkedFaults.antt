@@ -2,7 +2,8 @@
 use Rattle.std.proofs.Common.{◌≡◌, ℕ, List, Result, Err, refl, sym, ap, ◌∙◌, arith, codes}
 use Rattle.il_model.specs.declared.dialect.Dialect.{Dialect}
 use Rattle.il_model.specs.declared.dialect.Dialect.TheVariants as dialects
-use Rattle.il_model.specs.Words.{spells, look, mnemonic_of, is_well_spelled, name_parts}
+use Rattle.il_model.specs.Words.{look, mnemonic_of, is_well_spelled, name_parts}
+use Rattle.il_values.specs.Spelled.{spells}
 use Rattle.il_reader.specs.declared.fault.FaultAt.{FaultAt}
 use Rattle.il_reader.specs.Tokens.{name_of, word_piece, solid_piece, piece_of, sign_of, tokens_behind}
 use Rattle.il_reader.specs.Front.{skip_breaks}

@@ -1,6 +1,6 @@
 -- What stands at the front of a list of tokens, and why it's refused there.
 use Rattle.std.specs.Prelude.{ℕ, List, [], ◌∷◌, Bool, true, false, ◌&&◌, if◌then◌else◌}
-use Rattle.il_model.specs.Words.{spells}
+use Rattle.il_values.specs.Spelled.{spells}
 use Rattle.il_reader.specs.declared.fault.FaultAt.{FaultAt}
 use Rattle.il_reader.specs.declared.fault.FaultKind.{FaultKind}
 use Rattle.il_reader.specs.declared.fault.FaultKind.TheVariants.{Misplaced}

@@ -3,10 +3,10 @@ use Rattle.std.specs.Prelude.{ℕ, List, [], map, Option, Some, None, is_none, o
 use Rattle.std.specs.Prelude.{◌&&◌, if◌then◌else◌, codes}
 use Rattle.il_model.specs.declared.dialect.Dialect.{Dialect}
 use Rattle.il_model.specs.declared.dialect.Dialect.TheVariants as dialects
-use Rattle.il_model.specs.declared.op.Op.{Op}
-use Rattle.il_model.specs.declared.op.Op.TheVariants as ops
+use Rattle.il_values.specs.declared.op.Op.{Op}
+use Rattle.il_values.specs.declared.op.Op.TheVariants as ops
 use Rattle.il_model.specs.declared.words.Mnemonic.{Mnemonic}
-use Rattle.il_model.specs.Words.{spells}
+use Rattle.il_values.specs.Spelled.{spells}
 use Rattle.il_model.specs.Dialects.{operator_in}
 use Rattle.il_reader.specs.declared.lexeme.Sign.TheVariants as signs
 use Rattle.il_reader.specs.declared.contents.Operator.{Operator}

@@ -2,7 +2,7 @@
 use Rattle.std.proofs.Common.{◌≡◌, ℕ, ◌-◌, ◌<◌, ◌/◌, ◌%◌, ◌^◌, Bool, true, false, List, [], ◌∷◌, ◌++◌, refl, ap, ◌∙◌, arith}
 use Rattle.std.specs.Fmt.{digits, digit_glyph, padded_integral, format_spec}
 use Rattle.std.proofs.lemmas.Fmt.{hex_byte}
-use Rattle.il_model.specs.BitStrings.{hex_word}
+use Rattle.il_values.specs.BitStrings.{hex_word}
 
 -- what `{:02X}` writes
 abbrev pub byte_text : ℕ → List ℕ

@@ -4,14 +4,14 @@ use Rattle.std.specs.List.{flat_map, enumerate_from}
 use Rattle.std.specs.Fmt.{decimal, signed_decimal}
 use Rattle.il_real.specs.Texts.{real_text}
 use Rattle.il_model.specs.Answers.{refusal_number}
-use Rattle.il_model.specs.Operators.{is_zero}
-use Rattle.il_model.specs.BitStrings.{hex_word, hex_double}
+use Rattle.il_values.specs.Operators.{is_zero}
+use Rattle.il_values.specs.BitStrings.{hex_word, hex_double}
 use Rattle.il_model.specs.declared.command.Answer.{Answer}
 use Rattle.il_model.specs.declared.command.Answer.TheVariants as answers
-use Rattle.il_model.specs.declared.value.Stop.{Stop}
-use Rattle.il_model.specs.declared.value.Stop.TheVariants as stops
-use Rattle.il_model.specs.declared.value.Value.{Value}
-use Rattle.il_model.specs.declared.value.Value.TheVariants as values
+use Rattle.il_values.specs.declared.value.Stop.{Stop}
+use Rattle.il_values.specs.declared.value.Stop.TheVariants as stops
+use Rattle.il_values.specs.declared.value.Value.{Value}
+use Rattle.il_values.specs.declared.value.Value.TheVariants as values
 
 -- an output bit with its number where it is TRUE, by its byte and its place there: QX0.3
 abbrev pub bit_text : ℕ × Bool → List ℕ

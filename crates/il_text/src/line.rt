@@ -3,8 +3,8 @@
 ghost use Rattle.std.specs.Prelude.{◌≡◌, Some};
 ghost use Rattle.std.specs.Fmt.{DisplaysOnOk};
 ghost use Rattle.il_text.specs.Lines.{answer_text, bit_text, word_text, bits_text, words_text, stop_name, value_text};
-ghost use Rattle.il_model.specs.BitStrings.{hex_word};
-ghost use Rattle.il_model.specs.declared.value.Value.TheVariants as values;
+ghost use Rattle.il_values.specs.BitStrings.{hex_word};
+ghost use Rattle.il_values.specs.declared.value.Value.TheVariants as values;
 ghost use Rattle.il_text.specs.Lines.{line_text};
 ghost use Rattle.il_text.specs.Telling.{Puts};
 

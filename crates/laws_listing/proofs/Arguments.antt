@@ -4,15 +4,16 @@ use Rattle.std.specs.Prelude.{codes}
 use Rattle.std.specs.List.{AllByRecursion, flat_map}
 use Rattle.il_model.specs.declared.dialect.Dialect.{Dialect}
 use Rattle.il_model.specs.declared.dialect.Dialect.TheVariants as dialects
-use Rattle.il_model.specs.declared.value.Value.{Value}
-use Rattle.il_model.specs.declared.value.Value.TheVariants as values
+use Rattle.il_values.specs.declared.value.Value.{Value}
+use Rattle.il_values.specs.declared.value.Value.TheVariants as values
 use Rattle.il_model.specs.declared.program.Operand.{Operand}
 use Rattle.il_model.specs.declared.program.Operand.TheVariants as operands
 use Rattle.il_model.specs.declared.program.Side.{Side}
 use Rattle.il_model.specs.declared.program.Side.TheVariants as sides
 use Rattle.il_model.specs.declared.program.Argument.{Argument}
 use Rattle.il_model.specs.Program.{Declarations}
-use Rattle.il_model.specs.Words.{is_first_byte, is_reserved, spells, look, mnemonic_of, under}
+use Rattle.il_model.specs.Words.{is_first_byte, is_reserved, look, mnemonic_of, under}
+use Rattle.il_values.specs.Spelled.{spells}
 use Rattle.il_reader.specs.declared.lexeme.Sign.TheVariants as signs
 use Rattle.il_reader.specs.Tokens.{Token, begins_with, tokens_behind, piece_of, solid_piece, sign_of, tokens_of}
 use Rattle.il_reader.specs.Front.{is_sign, skip_breaks}

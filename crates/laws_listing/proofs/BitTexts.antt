@@ -5,9 +5,9 @@ use Rattle.std.specs.List.{list_all}
 use Rattle.std.proofs.lemmas.Bool.{lt-ltb}
 use Rattle.il_reader.specs.Tokens.{is_literal_byte}
 use Rattle.il_model.specs.Literals.{digit_of, are_digits, value_behind, integer_of, whole_by}
-use Rattle.il_model.specs.Words.{spells}
+use Rattle.il_values.specs.Spelled.{spells}
 use Rattle.std.specs.Fmt.{digit_glyph}
-use Rattle.il_model.specs.BitStrings.{hex_word, hex_double}
+use Rattle.il_values.specs.BitStrings.{hex_word, hex_double}
 
 hex_value : (d : ℕ) → d < 16 → digit_of (digit_glyph true d) ≡ d
 hex_value zero lt = refl

@@ -2,13 +2,14 @@
 use Rattle.std.proofs.Common.{◌≡◌, ℕ, Bool, true, false, cond, List, [], ◌∷◌, ◌++◌, Option, Some, None, refl, ap, ◌∙◌, not, append_assoc}
 use Rattle.std.specs.Prelude.{codes}
 use Rattle.il_model.specs.declared.dialect.Dialect.{Dialect}
-use Rattle.il_model.specs.declared.value.Value.{Value}
+use Rattle.il_values.specs.declared.value.Value.{Value}
 use Rattle.il_model.specs.declared.program.Loc.{Loc}
 use Rattle.il_model.specs.declared.program.Variable.{Variable}
 use Rattle.il_model.specs.declared.program.Instance.{Instance}
-use Rattle.il_model.specs.Values.{number_of}
-use Rattle.il_model.specs.Operators.{is_zero}
-use Rattle.il_model.specs.Words.{spells, look, mnemonic_of, is_reserved, is_well_spelled}
+use Rattle.il_values.specs.Values.{number_of}
+use Rattle.il_values.specs.Operators.{is_zero}
+use Rattle.il_model.specs.Words.{look, mnemonic_of, is_reserved, is_well_spelled}
+use Rattle.il_values.specs.Spelled.{spells}
 use Rattle.il_model.specs.Image.{may_retain}
 use Rattle.il_model.specs.Kinds.{kind_name}
 use Rattle.il_reader.specs.declared.lexeme.Sign.TheVariants as signs

@@ -7,19 +7,20 @@ use Rattle.std.proofs.lemmas.Bool.{lt-leb, ltb-false}
 use Rattle.il_model.specs.declared.dialect.Dialect.{Dialect}
 use Rattle.il_model.specs.declared.dialect.Dialect.TheVariants as dialects
 use Rattle.il_real.specs.Reals.{zero_real}
-use Rattle.il_model.specs.declared.value.Ty.{Ty}
-use Rattle.il_model.specs.declared.value.Ty.TheVariants as types
-use Rattle.il_model.specs.declared.value.Value.{Value}
-use Rattle.il_model.specs.declared.value.Value.TheVariants as values
+use Rattle.il_values.specs.declared.value.Ty.{Ty}
+use Rattle.il_values.specs.declared.value.Ty.TheVariants as types
+use Rattle.il_values.specs.declared.value.Value.{Value}
+use Rattle.il_values.specs.declared.value.Value.TheVariants as values
 use Rattle.il_model.specs.declared.program.Loc.{Loc}
 use Rattle.il_model.specs.declared.program.Variable.{Variable}
 use Rattle.il_model.specs.declared.program.Instance.{Instance}
 use Rattle.il_model.specs.declared.kind.BlockKind.{BlockKind}
 use Rattle.il_model.specs.declared.kind.BlockKind.TheVariants as kinds
 use Rattle.il_model.specs.Program.{Program, Declarations, declared_by}
-use Rattle.il_model.specs.Values.{ty_of, zero_of, number_of, typed_value}
-use Rattle.il_model.specs.Operators.{is_zero}
-use Rattle.il_model.specs.Words.{spells, is_lawful_name}
+use Rattle.il_values.specs.Values.{ty_of, zero_of, number_of, typed_value}
+use Rattle.il_values.specs.Operators.{is_zero}
+use Rattle.il_model.specs.Words.{is_lawful_name}
+use Rattle.il_values.specs.Spelled.{spells}
 use Rattle.il_model.specs.Kinds.{kind_name}
 use Rattle.il_model.specs.declared.program.Area.{Area}
 use Rattle.il_model.specs.Locations.{area_of, seen_as}
@@ -34,7 +35,7 @@ use Rattle.il_model.specs.Typing.{loc_type, is_writable_area}
 use Rattle.il_model.specs.Codes.{is_number, is_taken, is_overlapped, is_type, is_free, may_start_with}
 use Rattle.il_model.specs.Codes as codes_of
 use Rattle.il_model.specs.Fits.{IsVariable, IsInstance, AreItems}
-use Rattle.il_model.proofs.RealValues.{real_same}
+use Rattle.il_values.proofs.RealValues.{real_same}
 use Rattle.il_reader.specs.Grammar.{DeclarationText, BlockText, says_retained, dialect_of}
 use Rattle.il_reader.specs.declared.lexeme.Sign.TheVariants as signs
 use Rattle.il_declarations.specs.declared.fault.FaultAt.{FaultAt}

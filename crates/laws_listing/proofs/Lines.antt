@@ -4,10 +4,11 @@ use Rattle.std.specs.Prelude.{codes, is_none}
 use Rattle.std.specs.List.{AllByRecursion, flat_map}
 use Rattle.il_model.specs.declared.dialect.Dialect.{Dialect}
 use Rattle.il_model.specs.declared.dialect.Dialect.TheVariants as dialects
-use Rattle.il_model.specs.declared.op.Op.{Op}
+use Rattle.il_values.specs.declared.op.Op.{Op}
 use Rattle.il_model.specs.declared.program.Instr.{Instr}
 use Rattle.il_model.specs.Program.{Declarations}
-use Rattle.il_model.specs.Words.{spells, look, mnemonic_of, is_reserved}
+use Rattle.il_model.specs.Words.{look, mnemonic_of, is_reserved}
+use Rattle.il_values.specs.Spelled.{spells}
 use Rattle.il_model.specs.Codes.{is_empty}
 use Rattle.il_reader.specs.declared.lexeme.Sign.TheVariants as signs
 use Rattle.il_reader.specs.Tokens.{Token, tokens_behind, piece_of, tokens_of}

@@ -5,11 +5,11 @@ use Rattle.std.specs.List.{AllByRecursion, list_all, position}
 use Rattle.std.specs.Option.{option_map, option_and_then}
 use Rattle.std.proofs.lemmas.Slice.Eq.{bytes_eq-Decides}
 use Rattle.il_model.specs.declared.dialect.Dialect.{Dialect}
-use Rattle.il_model.specs.declared.value.Ty.{Ty}
-use Rattle.il_model.specs.declared.value.Ty.TheVariants as types
-use Rattle.il_model.specs.declared.value.Value.{Value}
-use Rattle.il_model.specs.declared.value.Value.TheVariants as values
-use Rattle.il_model.specs.declared.op.Op.{Op}
+use Rattle.il_values.specs.declared.value.Ty.{Ty}
+use Rattle.il_values.specs.declared.value.Ty.TheVariants as types
+use Rattle.il_values.specs.declared.value.Value.{Value}
+use Rattle.il_values.specs.declared.value.Value.TheVariants as values
+use Rattle.il_values.specs.declared.op.Op.{Op}
 use Rattle.il_model.specs.declared.program.Place.TheVariants as places
 use Rattle.il_model.specs.declared.program.Variable.{Variable}
 use Rattle.il_model.specs.declared.program.Instance.{Instance}
@@ -23,7 +23,7 @@ use Rattle.il_model.specs.declared.codes.OperandForm.TheVariants as forms
 use Rattle.il_model.specs.declared.fetched.Source.{Source}
 use Rattle.il_model.specs.declared.fetched.Source.TheVariants as sources
 use Rattle.il_model.specs.Program.{Program, Declarations, declared_by}
-use Rattle.il_model.specs.Values.{ty_of, number_of, is_within, truth_made, typed_value}
+use Rattle.il_values.specs.Values.{ty_of, number_of, is_within, truth_made, typed_value}
 use Rattle.il_model.specs.Words.{same_name, under, stands_under, is_lawful_name}
 use Rattle.il_model.specs.Kinds.{kind_fields, field_name, field_number}
 use Rattle.il_model.specs.Resolved.{variable_place, place_of, source_of, instance_in, numbered_field, field_of, has_label, target_of, called_kind}
@@ -46,8 +46,8 @@ use Rattle.il_model.proofs.Judged.{faultless}
 use Rattle.il_declarations.specs.Walk.{has_name, has_instance}
 use Rattle.laws_listing.proofs.Fronts.{both_true, not_true}
 use Rattle.il_model.proofs.LiteralLaws.{IsValue}
-use Rattle.il_model.proofs.BitValues.{bits_are, bits_again}
-use Rattle.il_model.proofs.RealValues.{real_is, real_again}
+use Rattle.il_values.proofs.BitValues.{bits_are, bits_again}
+use Rattle.il_values.proofs.RealValues.{real_is, real_again}
 use Rattle.laws_listing.proofs.Sayable.{newest, IsSayable, IsSayablePlace, IsSayableProgram}
 use Rattle.laws_listing.proofs.NameRuns.{both_false, is_under}
 use Rattle.laws_listing.proofs.NameTexts.{IsFreeName, IsFieldName, IsLawful, lawful_free, field_is}

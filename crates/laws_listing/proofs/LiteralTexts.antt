@@ -8,11 +8,11 @@ use Rattle.std.proofs.lemmas.List.{append-nil}
 use Rattle.std.proofs.Math.Seq.{take-append_seam, drop-append_seam}
 use Rattle.il_model.specs.declared.dialect.Dialect.{Dialect}
 use Rattle.il_model.specs.declared.dialect.Dialect.TheVariants as dialects
-use Rattle.il_model.specs.declared.value.Ty.TheVariants as types
-use Rattle.il_model.specs.declared.value.Value.{Value}
-use Rattle.il_model.specs.declared.value.Value.TheVariants as values
+use Rattle.il_values.specs.declared.value.Ty.TheVariants as types
+use Rattle.il_values.specs.declared.value.Value.{Value}
+use Rattle.il_values.specs.declared.value.Value.TheVariants as values
 use Rattle.il_model.specs.declared.literal.Literal.TheVariants.{Typed}
-use Rattle.il_model.specs.Words.{spells}
+use Rattle.il_values.specs.Spelled.{spells}
 use Rattle.il_model.specs.Literals.{integer_of, is_digit_byte, digits_len, behind_number, part_by, sum_of_parts}
 use Rattle.il_model.specs.Literals.{parts_by, duration_by, is_no_hash, hash_at, positive, minus, signed_by, whole_by}
 use Rattle.il_model.specs.Literals.{time_by, typed_literal, literal_of, typed_real, extended_literal_of}
@@ -22,8 +22,8 @@ use Rattle.il_real.specs.Literals.{real_literal}
 use Rattle.il_real.specs.Texts.{real_text}
 use Rattle.il_real.proofs.Texts.{reads_back}
 use Rattle.il_model.proofs.LiteralLaws.{IsValue}
-use Rattle.il_model.specs.BitStrings.{hex_word, hex_double}
-use Rattle.il_model.proofs.BitValues.{bits_small}
+use Rattle.il_values.specs.BitStrings.{hex_word, hex_double}
+use Rattle.il_values.proofs.BitValues.{bits_small}
 use Rattle.laws_listing.proofs.BitTexts.{word_whole, double_word_whole}
 use Rattle.il_lister.specs.Listing.{decimal, number_text, literal_text}
 use Rattle.laws_listing.proofs.Fronts.{both_true, prefix_whole, all_weaker}

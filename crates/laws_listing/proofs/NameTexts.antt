@@ -9,15 +9,16 @@ use Rattle.il_model.specs.declared.dialect.Dialect.{Dialect}
 use Rattle.il_model.specs.declared.dialect.Dialect.TheVariants as dialects
 use Rattle.il_model.specs.declared.codes.Version.{Version}
 use Rattle.il_model.specs.declared.codes.Version.TheVariants as versions
-use Rattle.il_model.specs.declared.op.Op.{Op}
-use Rattle.il_model.specs.declared.op.Modifier.{Modifier}
+use Rattle.il_values.specs.declared.op.Op.{Op}
+use Rattle.il_values.specs.declared.op.Modifier.{Modifier}
 use Rattle.il_model.specs.declared.kind.BlockKind.{BlockKind}
 use Rattle.il_model.specs.declared.kind.BlockKind.TheVariants as kinds
 use Rattle.il_model.specs.declared.kind.Field.{Field}
 use Rattle.il_model.specs.declared.kind.Field.TheVariants as fields
-use Rattle.il_model.specs.declared.value.Ty.{Ty}
-use Rattle.il_model.specs.declared.value.Ty.TheVariants as types
-use Rattle.il_model.specs.Words.{upper, spells, is_first_byte, is_name_byte, is_well_spelled, mnemonic_table, look, mnemonic_of, reserved_words, is_reserved}
+use Rattle.il_values.specs.declared.value.Ty.{Ty}
+use Rattle.il_values.specs.declared.value.Ty.TheVariants as types
+use Rattle.il_model.specs.Words.{is_first_byte, is_name_byte, is_well_spelled, mnemonic_table, look, mnemonic_of, reserved_words, is_reserved}
+use Rattle.il_values.specs.Spelled.{upper, spells}
 use Rattle.il_model.specs.Words.{is_dot, has_dot, under, name_parts, is_part, is_lawful_name}
 use Rattle.il_model.specs.Kinds.{block_kinds, kind_name, field_name}
 use Rattle.il_model.specs.Image.{may_have, may_call}

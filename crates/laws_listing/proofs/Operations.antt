@@ -4,9 +4,9 @@ use Rattle.std.specs.Prelude.{codes, is_none}
 use Rattle.std.specs.List.{AllByRecursion}
 use Rattle.il_model.specs.declared.dialect.Dialect.{Dialect}
 use Rattle.il_model.specs.declared.dialect.Dialect.TheVariants as dialects
-use Rattle.il_model.specs.declared.op.Op.{Op}
-use Rattle.il_model.specs.declared.op.Op.TheVariants as ops
-use Rattle.il_model.specs.declared.op.Modifier.{Modifier}
+use Rattle.il_values.specs.declared.op.Op.{Op}
+use Rattle.il_values.specs.declared.op.Op.TheVariants as ops
+use Rattle.il_values.specs.declared.op.Modifier.{Modifier}
 use Rattle.il_model.specs.declared.program.Operand.{Operand}
 use Rattle.il_model.specs.declared.program.Operand.TheVariants as operands
 use Rattle.il_model.specs.declared.program.Argument.{Argument}
@@ -14,8 +14,9 @@ use Rattle.il_model.specs.declared.program.Instr.{Instr}
 use Rattle.il_model.specs.declared.codes.OperandForm.TheVariants as usages
 use Rattle.il_model.specs.declared.codes.LetterSet.TheVariants as sets
 use Rattle.il_model.specs.Program.{Declarations}
-use Rattle.il_model.specs.Words.{spells, look, mnemonic_of, extended_mnemonic_of}
-use Rattle.il_model.specs.Functions.{look_function, function_named}
+use Rattle.il_model.specs.Words.{look, mnemonic_of, extended_mnemonic_of}
+use Rattle.il_values.specs.Spelled.{spells}
+use Rattle.il_values.specs.Functions.{look_function, function_named}
 use Rattle.il_model.specs.Dialects.{operator_in}
 use Rattle.il_model.specs.Codes.{usage_of, allows, has_form, allowed_by, formed_by, is_empty}
 use Rattle.il_reader.specs.declared.operations.Form.TheVariants as forms

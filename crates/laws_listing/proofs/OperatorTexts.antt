@@ -4,15 +4,16 @@ use Rattle.std.specs.Prelude.{codes}
 use Rattle.il_model.specs.declared.dialect.Dialect.{Dialect}
 use Rattle.il_model.specs.declared.dialect.Dialect.TheVariants as dialects
 use Rattle.il_model.specs.declared.codes.Version.TheVariants as versions
-use Rattle.il_model.specs.declared.function.Function.{Function}
-use Rattle.il_model.specs.declared.shift.Shift.TheVariants as shifts
-use Rattle.il_model.specs.declared.function.Function.TheVariants as functions
-use Rattle.il_model.specs.declared.op.Op.{Op}
-use Rattle.il_model.specs.declared.op.Op.TheVariants as ops
-use Rattle.il_model.specs.declared.op.Modifier.{Modifier}
+use Rattle.il_values.specs.declared.function.Function.{Function}
+use Rattle.il_values.specs.declared.shift.Shift.TheVariants as shifts
+use Rattle.il_values.specs.declared.function.Function.TheVariants as functions
+use Rattle.il_values.specs.declared.op.Op.{Op}
+use Rattle.il_values.specs.declared.op.Op.TheVariants as ops
+use Rattle.il_values.specs.declared.op.Modifier.{Modifier}
 use Rattle.il_model.specs.declared.words.Mnemonic.{Mnemonic}
-use Rattle.il_model.specs.Words.{is_well_spelled, spells, look, mnemonic_of, extended_mnemonic_of}
-use Rattle.il_model.specs.Functions.{look_function, function_named}
+use Rattle.il_model.specs.Words.{is_well_spelled, look, mnemonic_of, extended_mnemonic_of}
+use Rattle.il_values.specs.Spelled.{spells}
+use Rattle.il_values.specs.Functions.{look_function, function_named}
 use Rattle.il_model.specs.Dialects.{or_extended, operator_in}
 use Rattle.il_model.specs.Image.{op_version, may_have}
 use Rattle.il_model.specs.Codes.{usage_of, allowed_by}

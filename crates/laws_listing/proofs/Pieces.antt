@@ -7,8 +7,8 @@ use Rattle.std.proofs.lemmas.Bool.{eqb-true, le-ltb}
 use Rattle.il_model.specs.declared.dialect.Dialect.{Dialect}
 use Rattle.il_model.specs.declared.dialect.Dialect.TheVariants as dialects
 use Rattle.il_model.specs.declared.codes.Version.TheVariants as versions
-use Rattle.il_model.specs.declared.value.Value.{Value}
-use Rattle.il_model.specs.declared.value.Value.TheVariants as values
+use Rattle.il_values.specs.declared.value.Value.{Value}
+use Rattle.il_values.specs.declared.value.Value.TheVariants as values
 use Rattle.il_model.specs.declared.program.Area.TheVariants as areas
 use Rattle.il_model.specs.declared.program.Loc.{Loc}
 use Rattle.il_model.specs.declared.program.Loc.TheVariants.{Bit, Word, Pattern, Double}
@@ -22,7 +22,7 @@ use Rattle.il_reader.specs.declared.fault.FaultKind.TheVariants.{BadToken, TooLo
 use Rattle.il_reader.specs.Tokens.{is_within, is_letter_byte, is_word_byte, is_literal_byte, is_address_byte, begins_with, sign, broken, begins_letter, dotted_len, name_len, name_of, literal_piece, word_piece, is_word_end, sign_of, solid_piece, piece_of, tokens_behind, tokens_of}
 use Rattle.il_reader.proofs.Tokens.{gives}
 use Rattle.il_lister.specs.Listing.{decimal, number_text, literal_text, location_text}
-use Rattle.il_model.specs.BitStrings.{hex_word, hex_double}
+use Rattle.il_values.specs.BitStrings.{hex_word, hex_double}
 use Rattle.laws_listing.proofs.BitTexts.{word_bytes, double_word_bytes}
 use Rattle.laws_listing.proofs.Fronts.{begins, both_true, not_true, prefix_whole, all_weaker, all_both}
 use Rattle.laws_listing.proofs.Numerals.{is_digit, numeral}

@@ -10,7 +10,7 @@ use Rattle.il_model.specs.declared.program.Variable.{Variable}
 use Rattle.il_model.specs.declared.program.Instance.{Instance}
 use Rattle.il_model.specs.Image.{version_of, may_call, may_retain, may_instantiate}
 use Rattle.il_model.specs.Program.{Program, declared_by}
-use Rattle.il_model.specs.Words.{spells}
+use Rattle.il_values.specs.Spelled.{spells}
 use Rattle.il_model.specs.Fits.{IsImage}
 use Rattle.il_reader.specs.declared.contents.Qualifier.{Qualifier}
 use Rattle.il_reader.specs.declared.lexeme.Sign.TheVariants as signs

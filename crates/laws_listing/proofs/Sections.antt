@@ -4,7 +4,8 @@ use Rattle.std.specs.Prelude.{codes}
 use Rattle.std.specs.List.{AllByRecursion, flat_map}
 use Rattle.il_model.specs.declared.dialect.Dialect.{Dialect}
 use Rattle.il_model.specs.declared.dialect.Dialect.TheVariants as dialects
-use Rattle.il_model.specs.Words.{spells, is_well_spelled}
+use Rattle.il_model.specs.Words.{is_well_spelled}
+use Rattle.il_values.specs.Spelled.{spells}
 use Rattle.il_model.specs.Image.{may_retain}
 use Rattle.il_reader.specs.declared.contents.Qualifier.{Qualifier}
 use Rattle.il_reader.specs.declared.contents.Qualifier.TheVariants as qualifiers

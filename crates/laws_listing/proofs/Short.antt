@@ -8,18 +8,18 @@ use Rattle.il_model.specs.declared.dialect.Dialect.{Dialect}
 use Rattle.il_model.specs.declared.dialect.Dialect.TheVariants as dialects
 use Rattle.il_model.specs.declared.codes.Version.{Version}
 use Rattle.il_model.specs.declared.codes.Version.TheVariants as versions
-use Rattle.il_model.specs.declared.function.Function.{Function}
-use Rattle.il_model.specs.declared.shift.Shift.{Shift}
-use Rattle.il_model.specs.declared.shift.Shift.TheVariants as shifts
-use Rattle.il_model.specs.declared.function.Function.TheVariants as functions
+use Rattle.il_values.specs.declared.function.Function.{Function}
+use Rattle.il_values.specs.declared.shift.Shift.{Shift}
+use Rattle.il_values.specs.declared.shift.Shift.TheVariants as shifts
+use Rattle.il_values.specs.declared.function.Function.TheVariants as functions
 use Rattle.il_model.specs.Image.{version_of}
-use Rattle.il_model.specs.declared.value.Ty.{Ty}
-use Rattle.il_model.specs.declared.value.Ty.TheVariants as types
-use Rattle.il_model.specs.declared.value.Value.{Value}
-use Rattle.il_model.specs.declared.value.Value.TheVariants as values
-use Rattle.il_model.specs.declared.op.Op.{Op}
-use Rattle.il_model.specs.declared.op.Op.TheVariants as ops
-use Rattle.il_model.specs.declared.op.Modifier.{Modifier}
+use Rattle.il_values.specs.declared.value.Ty.{Ty}
+use Rattle.il_values.specs.declared.value.Ty.TheVariants as types
+use Rattle.il_values.specs.declared.value.Value.{Value}
+use Rattle.il_values.specs.declared.value.Value.TheVariants as values
+use Rattle.il_values.specs.declared.op.Op.{Op}
+use Rattle.il_values.specs.declared.op.Op.TheVariants as ops
+use Rattle.il_values.specs.declared.op.Modifier.{Modifier}
 use Rattle.il_model.specs.declared.program.Area.{Area}
 use Rattle.il_model.specs.declared.program.Area.TheVariants as areas
 use Rattle.il_model.specs.declared.program.Loc.{Loc}
@@ -35,8 +35,8 @@ use Rattle.il_model.specs.declared.program.Side.TheVariants as sides
 use Rattle.il_model.specs.declared.program.Argument.{Argument}
 use Rattle.il_model.specs.declared.program.Instr.{Instr}
 use Rattle.il_model.specs.Program.{Program, Declarations, declared_by}
-use Rattle.il_model.specs.Values.{is_within, number_of}
-use Rattle.il_model.specs.Operators.{is_zero}
+use Rattle.il_values.specs.Values.{is_within, number_of}
+use Rattle.il_values.specs.Operators.{is_zero}
 use Rattle.il_model.specs.Kinds.{kind_name}
 use Rattle.il_model.specs.Marks.{word_count, words_in}
 use Rattle.il_model.specs.Fits.{IsImage}

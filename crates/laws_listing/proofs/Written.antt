@@ -6,8 +6,8 @@ use Rattle.std.proofs.lemmas.List.{length-append}
 use Rattle.std.proofs.lemmas.Bool.{ltb-false}
 use Rattle.il_model.specs.declared.dialect.Dialect.{Dialect}
 use Rattle.il_model.specs.declared.dialect.Dialect.TheVariants as dialects
-use Rattle.il_model.specs.declared.value.Value.{Value}
-use Rattle.il_model.specs.declared.value.Value.TheVariants as values
+use Rattle.il_values.specs.declared.value.Value.{Value}
+use Rattle.il_values.specs.declared.value.Value.TheVariants as values
 use Rattle.il_model.specs.declared.program.Loc.{Loc}
 use Rattle.il_model.specs.declared.program.Variable.{Variable}
 use Rattle.il_model.specs.declared.program.Instance.{Instance}
@@ -16,8 +16,8 @@ use Rattle.il_model.specs.declared.program.Operand.TheVariants as operands
 use Rattle.il_model.specs.declared.program.Argument.{Argument}
 use Rattle.il_model.specs.declared.program.Instr.{Instr}
 use Rattle.il_model.specs.Program.{Program}
-use Rattle.il_model.specs.Values.{number_of}
-use Rattle.il_model.specs.Operators.{is_zero}
+use Rattle.il_values.specs.Values.{number_of}
+use Rattle.il_values.specs.Operators.{is_zero}
 use Rattle.il_model.specs.Kinds.{kind_name}
 use Rattle.il_model.specs.declared.limits.TheConstants.{LONGEST_DOTTED_NAME}
 use Rattle.il_model.specs.Words.{under}

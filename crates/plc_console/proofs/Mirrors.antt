@@ -2,7 +2,7 @@
 use Rattle.std.proofs.Common.{◌≡◌, ℕ, Bool, true, false, refl, sym, ap, subst, ◌∙◌, Option, Some, None, Result, Ok, Err}
 use Rattle.std.specs.Prelude.{if◌then◌else◌, nat_lt, length, List, slice_set}
 use Rattle.std.specs.Option.{option_map}
-use Rattle.il_model.specs.declared.value.Value.{Value}
+use Rattle.il_values.specs.declared.value.Value.{Value}
 use Rattle.il_model.specs.declared.program.Loc.{Loc}
 use Rattle.il_model.specs.declared.cells.InImage.{InImage}
 use Rattle.il_model.specs.declared.command.Answer.{Answer}

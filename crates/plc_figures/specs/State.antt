@@ -15,8 +15,8 @@ use Rattle.plc_figures.specs.declared.reading.Reading.{Reading}
 use Rattle.plc_figures.specs.declared.reading.Replica.{Replica}
 use Rattle.plc_figures.specs.declared.reading.Scans.{Scans}
 use Rattle.plc_figures.specs.declared.reading.Told.{Told}
-use Rattle.il_model.specs.declared.value.Value.{Value}
-use Rattle.il_model.specs.declared.value.Value.TheVariants as values
+use Rattle.il_values.specs.declared.value.Value.{Value}
+use Rattle.il_values.specs.declared.value.Value.TheVariants as values
 use Rattle.plc_figures.specs.Texts.{comma, flag_json, string_json, seconds_text, value_text}
 use Rattle.plc_figures.specs.Readings.{function_name, greatest_view, sum_of}
 

@@ -4,9 +4,9 @@ use Rattle.std.specs.Prelude.{false, ◌&&◌, if◌then◌else◌, nat_le, nat_
 use Rattle.std.specs.List.{flat_map}
 use Rattle.std.specs.Fmt.{signed_decimal}
 use Rattle.il_real.specs.Texts.{real_text}
-use Rattle.il_model.specs.BitStrings.{hex_word, hex_double}
-use Rattle.il_model.specs.declared.value.Value.{Value}
-use Rattle.il_model.specs.declared.value.Value.TheVariants as values
+use Rattle.il_values.specs.BitStrings.{hex_word, hex_double}
+use Rattle.il_values.specs.declared.value.Value.{Value}
+use Rattle.il_values.specs.declared.value.Value.TheVariants as values
 
 -- a text was added behind what there was, and nothing else was changed
 pub record IsAdded (old : List ℕ) (text : List ℕ) (new : List ℕ) : Type 0 where

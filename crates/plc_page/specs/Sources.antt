@@ -7,8 +7,8 @@ use Rattle.il_model.specs.declared.program.Loc.{Loc}
 use Rattle.il_model.specs.declared.program.Variable.{Variable}
 use Rattle.il_model.specs.declared.program.Area.{Area}
 use Rattle.il_model.specs.declared.program.Area.TheVariants as areas
-use Rattle.il_model.specs.declared.value.Value.{Value}
-use Rattle.il_model.specs.declared.value.Value.TheVariants as values
+use Rattle.il_values.specs.declared.value.Value.{Value}
+use Rattle.il_values.specs.declared.value.Value.TheVariants as values
 use Rattle.il_model.specs.Locations.{area_of}
 use Rattle.il_model.specs.Doubles.{word_value, double_value}
 use Rattle.il_model.specs.declared.program.Loc.TheVariants as places

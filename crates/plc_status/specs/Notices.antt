@@ -12,7 +12,7 @@ use Rattle.std.specs.declared.net.socket_addr.SocketAddrV6.{SocketAddrV6}
 use Rattle.hex.specs.Hex.{encode_lower}
 use Rattle.io_model.specs.declared.counted.CountedWrite.{Ghosts as CountedWriter}
 use Rattle.il_model.specs.declared.command.Command.{Command}
-use Rattle.il_model.specs.declared.value.Stop.{Stop}
+use Rattle.il_values.specs.declared.value.Stop.{Stop}
 use Rattle.il_model.specs.declared.command.Command.TheVariants as commands
 use Rattle.il_text.specs.Lines.{stop_name}
 use Rattle.il_text.specs.Telling.{WentOut, numbered}

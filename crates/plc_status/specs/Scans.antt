@@ -4,7 +4,7 @@ use Rattle.std.specs.Prelude.{get_or, set}
 use Rattle.std.specs.List.{prefix_len}
 use Rattle.il_model.specs.declared.command.Command.{Command}
 use Rattle.il_model.specs.declared.command.Answer.{Answer}
-use Rattle.il_model.specs.declared.value.Stop.TheVariants as stops
+use Rattle.il_values.specs.declared.value.Stop.TheVariants as stops
 use Rattle.il_model.specs.declared.command.Answer.TheVariants as answers
 use Rattle.vr_model.specs.Messages.{Body, Reply}
 use Rattle.plc_status.specs.declared.notice.Notice.{Notice}

@@ -5,9 +5,9 @@ use Rattle.std.specs.Int.{w8, w16, w32, w64, to_be_bytes}
 use Rattle.std.specs.List.{flat_map, AllByRecursion}
 use Rattle.std.proofs.lemmas.Bool.{eqb-true, leb-true, le-leb}
 use Rattle.std.proofs.lemmas.List.{nil_from_length}
-use Rattle.il_model.specs.declared.value.Value.{Value}
-use Rattle.il_model.specs.declared.op.Op.{Op}
-use Rattle.il_model.specs.declared.op.Op.TheVariants as ops
+use Rattle.il_values.specs.declared.value.Value.{Value}
+use Rattle.il_values.specs.declared.op.Op.{Op}
+use Rattle.il_values.specs.declared.op.Op.TheVariants as ops
 use Rattle.il_model.specs.declared.kind.BlockKind.{BlockKind}
 use Rattle.il_model.specs.declared.kind.BlockKind.TheVariants as kinds
 use Rattle.il_model.specs.declared.fetched.Deferred.{Deferred}
@@ -16,14 +16,14 @@ use Rattle.il_model.specs.declared.snapshot.SavedPhase.{SavedPhase}
 use Rattle.il_model.specs.declared.snapshot.SavedPhase.TheVariants as phases
 use Rattle.il_model.specs.Snapshots.{SavedBlock, SavedController}
 use Rattle.il_model.specs.Kinds.{block_kinds, kind_code, kind_of_code, input_count}
-use Rattle.il_model.specs.Image.{op_code}
-use Rattle.il_model.specs.Codes.{op_list, op_of}
+use Rattle.il_values.specs.OpCodes.{op_code}
+use Rattle.il_values.specs.OpCodes.{op_list, op_of}
 use Rattle.vr_wire.specs.Fields.{bit_number, listed, counted, value_bytes, FitsValue}
 use Rattle.vr_wire.specs.Reading.{◌>>=◌, number_at, counted_at, fields_4, lawful, passed, read_by, stop_of, listed_at, value_at}
 use Rattle.vr_wire.specs.Snapshots.{phase_code, phase_stop, phase_performed, phase_bytes, result_bytes, deferred_bytes, scan_bytes, areas_bytes, block_bytes, force_bytes, tables_bytes, snapshot_bytes, rises_from, FitsPhase, FitsResult, may_open, IsOpening, FitsDeferred, IsAtRest, IsScan, FitsScan, FitsAreas, IsBlock, FitsBlock, FitsForce, IsTables, FitsTables, IsSnapshot, FitsSnapshot}
 use Rattle.vr_wire.specs.SnapshotReading.{phase_of, Placed, PhaseNumbers, numbers_at, placed_of, placed_at, result_readers, result_at, opening, truth_of, there, deferred_at, is_depth, deferred_list_at, OpenScan, is_at_rest, is_scan, any_scan_at, scan_at, Areas, areas_at, parts_of_at, block_at, force_at, breaks_at, slots_rise, forces_at, Tables, tables_at, snapshot_of, snapshot_at}
 use Rattle.il_model.proofs.Lawful.{listed as op_listed, op_below}
-use Rattle.il_model.proofs.OpCodes.{op_is}
+use Rattle.il_values.proofs.OpCodes.{op_is}
 use Rattle.vr_wire.proofs.Values.{some_yes}
 use Rattle.vr_wire.proofs.Fields.{IsBytes, bind_some, some_is, Takes, Takes-then, IsInverse, number8, number16, number32, number64, took_0, took_1, took_2, took_3, took_4, again_1, again_2, again_3, again_4, lawful_inverse, tagged_takes, tagged_again}
 use Rattle.vr_wire.proofs.Formats.{listed_inverse, counted_inverse, bytes_inverse, passing, cells_inverse, value_inverse, slot_inverse, stop_sound, stop_again}

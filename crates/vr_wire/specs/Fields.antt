@@ -4,17 +4,18 @@ use Rattle.std.specs.Prelude.{◌∷◌, ◌++◌, length, take, drop, Some}
 use Rattle.std.specs.List.{flat_map, AllByRecursion}
 use Rattle.std.specs.Int.{Width, w8, w16, w32, w64, to_be_bytes, cast_unsigned}
 use Rattle.il_model.specs.declared.limits.TheConstants.{BITS, WORDS, MOST_IMAGE_BYTES}
-use Rattle.il_model.specs.declared.value.Ty.{Ty}
-use Rattle.il_model.specs.declared.value.Ty.TheVariants as types
-use Rattle.il_model.specs.declared.value.Value.{Value}
+use Rattle.il_values.specs.declared.value.Ty.{Ty}
+use Rattle.il_values.specs.declared.value.Ty.TheVariants as types
+use Rattle.il_values.specs.declared.value.Value.{Value}
 use Rattle.il_model.specs.declared.cells.Cells.{Cells}
 use Rattle.il_model.specs.declared.command.Command.{Command}
 use Rattle.il_model.specs.declared.command.Command.TheVariants as commands
 use Rattle.il_model.specs.declared.command.Answer.{Answer}
 use Rattle.il_model.specs.declared.command.Answer.TheVariants as answers
-use Rattle.il_model.specs.Values.{typed_value, ty_of, number_of}
+use Rattle.il_values.specs.Values.{typed_value, ty_of, number_of}
 use Rattle.il_model.specs.Image.{type_code}
-use Rattle.il_model.specs.Answers.{stop_number, refusal_number}
+use Rattle.il_model.specs.Answers.{refusal_number}
+use Rattle.il_values.specs.Stops.{stop_number}
 use Rattle.il_model.specs.Locations.{safe_image}
 
 -- how many there are, in a number of that width, and each

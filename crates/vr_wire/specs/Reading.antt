@@ -4,10 +4,10 @@ use Rattle.std.specs.Prelude.{Option, Some, None, Result, Ok, Err, nat_lt, nat_l
 use Rattle.std.specs.List.{flat_map}
 use Rattle.std.specs.Int.{Width, w8, w16, w64, byte_len, from_be_bytes, cast_signed}
 use Rattle.il_model.specs.declared.limits.TheConstants.{WORDS, MOST_IMAGE_BYTES}
-use Rattle.il_model.specs.declared.value.Ty.{Ty}
-use Rattle.il_model.specs.declared.value.Value.{Value}
-use Rattle.il_model.specs.declared.value.Stop.{Stop}
-use Rattle.il_model.specs.declared.value.Stop.TheVariants as stops
+use Rattle.il_values.specs.declared.value.Ty.{Ty}
+use Rattle.il_values.specs.declared.value.Value.{Value}
+use Rattle.il_values.specs.declared.value.Stop.{Stop}
+use Rattle.il_values.specs.declared.value.Stop.TheVariants as stops
 use Rattle.il_model.specs.declared.cells.Cells.{Cells}
 use Rattle.il_model.specs.declared.slot.Slot.{Slot}
 use Rattle.il_model.specs.declared.command.Command.{Command}
@@ -16,7 +16,7 @@ use Rattle.il_model.specs.declared.command.Answer.{Answer}
 use Rattle.il_model.specs.declared.command.Answer.TheVariants as answers
 use Rattle.il_model.specs.declared.command.Refusal.{Refusal}
 use Rattle.il_model.specs.declared.command.Refusal.TheVariants as refusals
-use Rattle.il_model.specs.Values.{typed_value}
+use Rattle.il_values.specs.Values.{typed_value}
 use Rattle.il_model.specs.Codes.{type_of}
 use Rattle.il_model.specs.Locations.{safe_image}
 use Rattle.vr_wire.specs.Fields.{type_width}

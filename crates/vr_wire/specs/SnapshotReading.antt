@@ -3,9 +3,9 @@ use Rattle.std.specs.Prelude.{ℕ, zero, suc, ◌==◌, Bool, true, false, ◌&&
 use Rattle.std.specs.Prelude.{slice_get, Option, Some, None, is_none}
 use Rattle.std.specs.Int.{w8, w16, w32, w64}
 use Rattle.il_model.specs.declared.limits.TheConstants.{MOST_OPEN_PARENTHESES}
-use Rattle.il_model.specs.declared.value.Value.{Value}
+use Rattle.il_values.specs.declared.value.Value.{Value}
 use Rattle.il_model.specs.declared.cells.Cells.{Cells}
-use Rattle.il_model.specs.declared.op.Op.{Op}
+use Rattle.il_values.specs.declared.op.Op.{Op}
 use Rattle.il_model.specs.declared.kind.BlockKind.{BlockKind}
 use Rattle.il_model.specs.declared.fetched.Deferred.{Deferred}
 use Rattle.il_model.specs.declared.snapshot.ForcedSlot.{ForcedSlot}
@@ -13,7 +13,7 @@ use Rattle.il_model.specs.declared.snapshot.SavedPhase.{SavedPhase}
 use Rattle.il_model.specs.declared.snapshot.SavedPhase.TheVariants as phases
 use Rattle.il_model.specs.Snapshots.{SavedBlock, SavedController}
 use Rattle.il_model.specs.Kinds.{kind_of_code, input_count}
-use Rattle.il_model.specs.Codes.{op_of}
+use Rattle.il_values.specs.OpCodes.{op_of}
 use Rattle.vr_wire.specs.Snapshots.{may_open, rises_from, slot_code}
 use Rattle.vr_wire.specs.Reading.{◌>>=◌, Reader, number_at, fields_0, fields_1, fields_2, fields_3, fields_4, items_at}
 use Rattle.vr_wire.specs.Reading.{listed_at, counted_at, lawful, passed, tagged, cells_at, value_at, slot_at, stop_of}

@@ -4,18 +4,18 @@ use Rattle.std.specs.Prelude.{Option, Some, None, is_some}
 use Rattle.std.specs.List.{flat_map, AllByRecursion}
 use Rattle.std.specs.Int.{w8, w16, w32, w64, to_be_bytes}
 use Rattle.il_model.specs.declared.limits.TheConstants.{MOST_OPEN_PARENTHESES}
-use Rattle.il_model.specs.declared.value.Value.{Value}
+use Rattle.il_values.specs.declared.value.Value.{Value}
 use Rattle.il_model.specs.declared.cells.Cells.{Cells}
-use Rattle.il_model.specs.declared.op.Op.{Op}
+use Rattle.il_values.specs.declared.op.Op.{Op}
 use Rattle.il_model.specs.declared.fetched.Deferred.{Deferred}
 use Rattle.il_model.specs.declared.snapshot.ForcedSlot.{ForcedSlot}
 use Rattle.il_model.specs.declared.snapshot.SavedPhase.{SavedPhase}
 use Rattle.il_model.specs.declared.snapshot.SavedPhase.TheVariants as phases
 use Rattle.il_model.specs.Snapshots.{SavedBlock, SavedController}
 use Rattle.il_model.specs.Kinds.{kind_code, input_count}
-use Rattle.il_model.specs.Image.{op_code}
+use Rattle.il_values.specs.OpCodes.{op_code}
 use Rattle.il_model.specs.Codes.{letters_of}
-use Rattle.il_model.specs.Answers.{stop_number}
+use Rattle.il_values.specs.Stops.{stop_number}
 use Rattle.vr_wire.specs.Fields.{listed, counted, value_bytes, bit_number, cells_bytes, FitsValue, FitsCells}
 
 -- ---- the open scan: its phase, why it stopped, where it is, how many instructions it has performed

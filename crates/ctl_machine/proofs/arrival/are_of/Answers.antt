@@ -1,6 +1,6 @@
 use Rattle.std.proofs.Common.{sym, ap, ◌∙◌, map, reverse, ◌&&◌}
 use Rattle.std.specs.Option.{option_map}
-use Rattle.il_model.specs.Values.{ty_of}
+use Rattle.il_values.specs.Values.{ty_of}
 use Rattle.ctl_model.specs.Suits.{held_of}
 use Rattle.ctl_model.specs.Snapshots.{same_optional, all_held}
 use Rattle.ctl_machine.proofs.HeldBack.{held_as}

@@ -2,7 +2,7 @@ use Rattle.std.proofs.Common.{◌≡◌, ◌≤◌, ◌++◌, drop, map, length}
 use Rattle.std.specs.Prelude.{filter}
 use Rattle.il_model.specs.declared.kind.Field.{Field}
 use Rattle.il_model.specs.Kinds.{field_type, is_input}
-use Rattle.il_model.specs.Values.{zero_of}
+use Rattle.il_values.specs.Values.{zero_of}
 use Rattle.ctl_model.specs.State.{cold_inputs}
 use Rattle.ctl_machine.proofs.instance.cold_inputs.Given as goal
 

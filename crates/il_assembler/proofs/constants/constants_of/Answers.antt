@@ -1,5 +1,5 @@
 use Rattle.std.proofs.Common.{[], Option, ap, ◌∙◌}
-use Rattle.il_model.specs.declared.value.Value.{Value}
+use Rattle.il_values.specs.declared.value.Value.{Value}
 use Rattle.il_assembler.specs.Walk.{constants_in, literals_in, all_literals}
 use Rattle.il_assembler.proofs.Gathered.{line_gathered}
 use Rattle.il_assembler.proofs.constants.constants_of.Goals as goal

@@ -1,6 +1,6 @@
 use Rattle.std.proofs.Common.{◌≡◌, true, List, sym, subst, ◌∙◌}
 use Rattle.std.specs.List.{list_all}
-use Rattle.il_model.specs.declared.value.Value.{Value}
+use Rattle.il_values.specs.declared.value.Value.{Value}
 use Rattle.il_model.specs.declared.codes.Version.{Version}
 use Rattle.il_model.specs.Image.{may_declare, may_keep}
 use Rattle.il_model.proofs.Versions.{version_may}

@@ -1,5 +1,5 @@
 use Rattle.std.proofs.Common.{◌≡◌, take, map}
-use Rattle.il_model.specs.Words.{upper}
+use Rattle.il_values.specs.Spelled.{upper}
 use Rattle.il_declarations.proofs.variables.capital_name.Given as goal
 
 abbrev pub invariant-loop-b : goal.invariant-loop-b

@@ -1,5 +1,5 @@
 use Rattle.std.proofs.Common.{sym, ap, ◌∙◌, false}
-use Rattle.il_model.specs.declared.value.Ty.{Ty}
+use Rattle.il_values.specs.declared.value.Ty.{Ty}
 use Rattle.il_model.specs.declared.typing.OperandKind.TheVariants as kinds
 use Rattle.il_model.specs.Program.{Program}
 use Rattle.il_model.specs.Row.{row}

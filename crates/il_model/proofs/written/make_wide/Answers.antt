@@ -1,7 +1,7 @@
 use Rattle.std.proofs.Common.{sym, ◌≤ℤ◌, ◌<ℤ◌, arith}
 use Rattle.std.specs.Prelude.{pos, negsuc}
 use Rattle.std.proofs.lemmas.Int.{ints}
-use Rattle.il_model.proofs.RealValues.{typed_low, typed_high}
+use Rattle.il_values.proofs.RealValues.{typed_low, typed_high}
 use Rattle.il_model.proofs.written.make_wide.Goals as goal
 use Rattle.il_model.proofs.written.make_wide.Goals.{else-z-geminus9223372036854775808-via-then-z-geminus9223372036854775808+else-z-lt9223372036854775808, else-z-geminus9223372036854775808-via-else-z-geminus9223372036854775808}
 

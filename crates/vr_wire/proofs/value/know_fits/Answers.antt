@@ -1,5 +1,5 @@
 use Rattle.std.proofs.Common.{subst, sym}
-use Rattle.il_model.proofs.RealValues.{real_again}
+use Rattle.il_values.proofs.RealValues.{real_again}
 use Rattle.vr_wire.specs.Fields.{FitsValue}
 use Rattle.vr_wire.proofs.value.know_fits.Goals as goal
 

@@ -1,5 +1,5 @@
 use Rattle.std.proofs.Common.{◌≡◌, ap, ◌∙◌, rules, option_map}
-use Rattle.il_model.specs.Values.{ty_of}
+use Rattle.il_values.specs.Values.{ty_of}
 use Rattle.ctl_blocks.specs.Blocks.{output_value}
 use Rattle.ctl_blocks.proofs.Outputs.{output_typed}
 use Rattle.ctl_blocks.proofs.block.Block.output.Goals as goal

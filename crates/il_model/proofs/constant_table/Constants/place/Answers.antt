@@ -1,6 +1,6 @@
 use Rattle.std.proofs.Common.{ap, ◌∙◌, arith, List, length}
 use Rattle.std.specs.List.{position}
-use Rattle.il_model.specs.declared.value.Value.{Value}
+use Rattle.il_values.specs.declared.value.Value.{Value}
 use Rattle.il_model.specs.Constants.{same_value}
 use Rattle.il_model.proofs.ConstantKeys.{small_place}
 use Rattle.il_model.proofs.constant_table.Constants.place.Goals as goal

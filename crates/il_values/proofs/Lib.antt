@@ -1,0 +1,4 @@
+pub mod RealValues
+pub mod BitValues
+pub mod Shifts
+pub mod OpCodes
