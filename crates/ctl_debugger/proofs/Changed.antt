@@ -14,7 +14,7 @@ use Rattle.il_model.specs.declared.command.Answer.TheVariants as answers
 use Rattle.il_model.specs.declared.command.Refusal.TheVariants as refusals
 use Rattle.il_model.specs.Program.{Program}
 use Rattle.il_model.specs.Fits.{IsProgram, IsImage}
-use Rattle.il_loader.specs.declared.fault.LoadFault.{LoadFault}
+use Rattle.il_records.specs.declared.fault.LoadFault.{LoadFault}
 use Rattle.il_loader.specs.Images.{IsWellFormed, Reading, AreBytes, ReadsImages}
 use Rattle.ctl_model.specs.declared.phase.Phase.{Phase}
 use Rattle.ctl_model.specs.declared.phase.Phase.TheVariants as phases

@@ -27,9 +27,10 @@ use Rattle.il_model.specs.Codes.{usage_of, allows, has_form}
 use Rattle.il_model.specs.Image.{spelling}
 use Rattle.il_model.proofs.Judged.{is_typed}
 use Rattle.il_loader.specs.Images.{IsName, IsOperand, IsInstruction, IsWellFormed, Reading, AreBytes, ReadsImages}
-use Rattle.il_loader.specs.declared.fault.LoadFault.{LoadFault}
-use Rattle.il_loader.specs.declared.fault.LoadFault.TheVariants.{Truncated}
-use Rattle.il_loader.specs.Reading.{items_from, counts_at, header_at, spelled_name_at, name_at, first_value_at, declared_at, variable_at, instance_at, mark_at, constant_at, instruction_at, argument_at, word_at, bodies_at, tables_at}
+use Rattle.il_records.specs.declared.fault.LoadFault.{LoadFault}
+use Rattle.il_records.specs.declared.fault.LoadFault.TheVariants.{Truncated}
+use Rattle.il_loader.specs.Reading.{items_from, name_at, variable_at, instance_at, mark_at, instruction_at, argument_at, word_at, bodies_at, tables_at}
+use Rattle.il_records.specs.Fields.{counts_at, header_at, spelled_name_at, first_value_at, declared_at, constant_at}
 use Rattle.il_loader.specs.Judging.{image_of, judged_tables, is_own_version}
 use Rattle.ctl_debugger.specs.Owned.{Owned, cold_owned}
 use Rattle.ctl_debugger.specs.Outcome.{on_image, owned_from, answers_from, answers_with, answers_of}

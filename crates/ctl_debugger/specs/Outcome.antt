@@ -11,7 +11,7 @@ use Rattle.ctl_model.specs.declared.phase.Phase.{Phase}
 use Rattle.ctl_model.specs.declared.phase.Phase.TheVariants as phases
 use Rattle.ctl_model.specs.Changes.{carried_control}
 use Rattle.ctl_model.specs.Commands.{command_outcome}
-use Rattle.il_loader.specs.declared.fault.LoadFault.{LoadFault}
+use Rattle.il_records.specs.declared.fault.LoadFault.{LoadFault}
 use Rattle.il_loader.specs.Images.{Reading}
 use Rattle.il_loader.specs.Judging.{image_of}
 use Rattle.ctl_debugger.specs.Owned.{Owned, cold_owned, with_control}

@@ -7,7 +7,7 @@ use Rattle.il_model.specs.declared.command.Answer.TheVariants as answers
 use Rattle.il_model.specs.declared.command.Refusal.TheVariants as refusals
 use Rattle.il_model.specs.Answers.{is_change}
 use Rattle.il_model.specs.Program.{Program}
-use Rattle.il_loader.specs.declared.fault.LoadFault.{LoadFault}
+use Rattle.il_records.specs.declared.fault.LoadFault.{LoadFault}
 use Rattle.il_loader.specs.Judging.{image_of}
 use Rattle.ctl_model.specs.Commands.{no_breaks}
 use Rattle.ctl_scan.specs.Kept.{IsCycleOf}

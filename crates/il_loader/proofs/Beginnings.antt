@@ -17,12 +17,13 @@ use Rattle.il_model.specs.Image.{magic, number_width, may_call, spelling}
 use Rattle.il_model.specs.Kinds.{kind_of_code}
 use Rattle.il_model.specs.Codes.{is_new_name, is_new_instance, is_new_label, length_in, type_in, retained_in, version_numbered, coded_location_in, initial_of, constant_of, op_in, letters_of, word_operand_in, side_of, argument_number, argument_operand_in}
 use Rattle.il_model.specs.Fits.{IsImage}
-use Rattle.il_loader.specs.declared.counts.Counts.{Counts}
-use Rattle.il_loader.specs.declared.fault.LoadFault.{LoadFault}
-use Rattle.il_loader.specs.declared.fault.LoadFault.TheVariants.{Truncated, BadMagic, BadCount, BadWord, Trailing}
-use Rattle.il_loader.specs.declared.fault.LoadError.{LoadError}
+use Rattle.il_records.specs.declared.counts.Counts.{Counts}
+use Rattle.il_records.specs.declared.fault.LoadFault.{LoadFault}
+use Rattle.il_records.specs.declared.fault.LoadFault.TheVariants.{Truncated, BadMagic, BadCount, BadWord, Trailing}
+use Rattle.il_records.specs.declared.fault.LoadError.{LoadError}
 use Rattle.il_loader.specs.Tables.{Tables}
-use Rattle.il_loader.specs.Reading.{◌>>=◌, Gives, number_at, signed_at, lawful, agrees, items_from, count_at, counts_at, lawful_version, header_at, spelled_name_at, name_at, first_value_at, declared_at, variable_at, instance_at, mark_at, constant_at, instruction_at, argument_at, word_by, word_at, next_word, ended, bodies_at, tables_at}
+use Rattle.il_loader.specs.Reading.{items_from, name_at, variable_at, instance_at, mark_at, instruction_at, argument_at, word_by, word_at, next_word, ended, bodies_at, tables_at}
+use Rattle.il_records.specs.Fields.{◌>>=◌, Gives, number_at, signed_at, lawful, agrees, count_at, counts_at, lawful_version, header_at, spelled_name_at, first_value_at, declared_at, constant_at}
 use Rattle.il_loader.specs.Judging.{judged_tables, image_of}
 use Rattle.il_loader.proofs.Fields.{bind_ok}
 use Rattle.il_loader.proofs.Images.{image_again}

@@ -22,10 +22,10 @@ use Rattle.il_model.specs.Image.{type_code, location_code, number_width, number_
 use Rattle.il_model.proofs.CodedOperands.{coded_back}
 use Rattle.il_model.proofs.SettledPrograms.{made_number}
 use Rattle.il_model.proofs.Versions.{number_limit, IsKept, initial_made, made_type}
-use Rattle.il_loader.specs.declared.fault.LoadFault.{LoadFault}
-use Rattle.il_loader.specs.declared.fault.LoadFault.TheVariants.{Truncated}
+use Rattle.il_records.specs.declared.fault.LoadFault.{LoadFault}
+use Rattle.il_records.specs.declared.fault.LoadFault.TheVariants.{Truncated}
 use Rattle.il_model.specs.Codes.{if_passes, longest_name, length_in, type_of, is_free, free_loc, coded_location, initial_of, is_known, constant_of}
-use Rattle.il_loader.specs.Reading.{◌>>=◌, number_at, signed_at, lawful, agrees}
+use Rattle.il_records.specs.Fields.{◌>>=◌, number_at, signed_at, lawful, agrees}
 
 abbrev pub IsBytes : List ℕ → Type 0
 IsBytes bytes = (i : ℕ) → get_or bytes i 0 < 256

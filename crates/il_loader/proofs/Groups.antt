@@ -22,8 +22,8 @@ use Rattle.il_model.proofs.Marks.{AreLabelled, start_low}
 use Rattle.il_loader.specs.declared.word.Word.{Word}
 use Rattle.il_loader.specs.declared.word.Content.{Content}
 use Rattle.il_loader.specs.declared.word.Content.TheVariants as contents
-use Rattle.il_loader.specs.declared.fault.LoadFault.{LoadFault}
-use Rattle.il_loader.specs.declared.fault.LoadFault.TheVariants.{BadTarget}
+use Rattle.il_records.specs.declared.fault.LoadFault.{LoadFault}
+use Rattle.il_records.specs.declared.fault.LoadFault.TheVariants.{BadTarget}
 use Rattle.il_loader.specs.Tables.{operand_in, is_argument, with_argument, front_arguments, with_line, lines_of}
 use Rattle.il_loader.specs.Judging.{label_place, is_start, risen, takes_argument, stray_from}
 use Rattle.il_loader.proofs.Records.{IsNext}

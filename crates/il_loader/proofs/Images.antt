@@ -26,11 +26,12 @@ use Rattle.il_model.proofs.Versions.{same_version, version_may}
 use Rattle.il_loader.specs.declared.word.Word.{Word}
 use Rattle.il_loader.specs.declared.word.Content.{Content}
 use Rattle.il_loader.specs.declared.word.Content.TheVariants as contents
-use Rattle.il_loader.specs.declared.fault.LoadFault.{LoadFault}
-use Rattle.il_loader.specs.declared.fault.LoadFault.TheVariants.{BadVersion, BadWord}
-use Rattle.il_loader.specs.declared.fault.LoadError.{LoadError}
+use Rattle.il_records.specs.declared.fault.LoadFault.{LoadFault}
+use Rattle.il_records.specs.declared.fault.LoadFault.TheVariants.{BadVersion, BadWord}
+use Rattle.il_records.specs.declared.fault.LoadError.{LoadError}
 use Rattle.il_loader.specs.Tables.{Tables, declared_in, operand_in, with_line, lines_of}
-use Rattle.il_loader.specs.Reading.{◌>>=◌, Gives, agrees, tables_at}
+use Rattle.il_loader.specs.Reading.{tables_at}
+use Rattle.il_records.specs.Fields.{◌>>=◌, Gives, agrees}
 use Rattle.il_loader.specs.Judging.{constant_place, risen, used_from, earlier, sooner, stray_from, misspelled, at_word, words_fine, all_used, is_own_version, small, judged_tables, image_of}
 use Rattle.il_loader.proofs.Fields.{IsBytes, bind_ok, agrees_ok, ok_is}
 use Rattle.il_loader.proofs.Records.{may_say, may_read, read_word_bytes}

@@ -1,9 +1,10 @@
 -- Going over the records of a table, from left to right.
 use Rattle.std.proofs.Common.{◌≡◌, ℕ, suc, ◌+◌, ◌-◌, ◌<◌, ◌≤◌, List, [], ◌∷◌, ◌++◌, Result, Ok, Err, refl, sym, ◌∙◌, arith}
-use Rattle.il_loader.specs.declared.fault.LoadFault.{LoadFault}
-use Rattle.il_loader.specs.declared.fault.LoadError.{LoadError}
-use Rattle.il_loader.specs.declared.fault.LoadError.TheVariants as errors
-use Rattle.il_loader.specs.Reading.{Fails, items_from}
+use Rattle.il_records.specs.declared.fault.LoadFault.{LoadFault}
+use Rattle.il_records.specs.declared.fault.LoadError.{LoadError}
+use Rattle.il_records.specs.declared.fault.LoadError.TheVariants as errors
+use Rattle.il_loader.specs.Reading.{items_from}
+use Rattle.il_records.specs.Fields.{Fails}
 
 pub goes_on : {X : Type 0} (item : List X → List ℕ → Result (X × List ℕ) LoadFault) (count i : ℕ) (seen : List X) (bytes : List ℕ) (x : X) (after : List ℕ) (total : Result (List X × List ℕ) LoadFault)
     → i < count → item seen bytes ≡ Ok (x, after) → items_from item (count - i) seen bytes ≡ total → items_from item (count - (i + 1)) (seen ++ x ∷ []) after ≡ total

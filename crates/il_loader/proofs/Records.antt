@@ -45,9 +45,10 @@ use Rattle.il_model.proofs.Versions.{IsKept, variable_kept, constant_kept, type_
 use Rattle.il_loader.specs.declared.word.Word.{Word}
 use Rattle.il_loader.specs.declared.word.Content.{Content}
 use Rattle.il_loader.specs.declared.word.Content.TheVariants as contents
-use Rattle.il_loader.specs.declared.fault.LoadFault.{LoadFault}
-use Rattle.il_loader.specs.declared.fault.LoadFault.TheVariants.{Truncated, BadWord}
-use Rattle.il_loader.specs.Reading.{◌>>=◌, number_at, signed_at, lawful, agrees, items_from, spelled_name_at, name_at, first_value_at, declared_at, variable_at, instance_at, mark_at, constant_at, instruction_at, argument_at, word_by, word_at}
+use Rattle.il_records.specs.declared.fault.LoadFault.{LoadFault}
+use Rattle.il_records.specs.declared.fault.LoadFault.TheVariants.{Truncated, BadWord}
+use Rattle.il_loader.specs.Reading.{items_from, name_at, variable_at, instance_at, mark_at, instruction_at, argument_at, word_by, word_at}
+use Rattle.il_records.specs.Fields.{◌>>=◌, number_at, signed_at, lawful, agrees, spelled_name_at, first_value_at, declared_at, constant_at}
 use Rattle.il_loader.proofs.Fields.{IsBytes, IsBytes-drop, bind_ok, guard_no, agrees_ok, lawful_ok, some_yes, ok_is, Takes, Takes-then, wide8, wide16, number_takes, number_again, signed_takes, signed_again, length_is, length_below, type_is, type_small, location_is, initial_is, tested_some, constant_is}
 
 record IsName (is_new : List ℕ → Bool) (name : List ℕ) : Type 0 where

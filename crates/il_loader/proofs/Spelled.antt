@@ -13,11 +13,12 @@ use Rattle.il_model.specs.Marks.{Mark}
 use Rattle.il_model.specs.Codes.{version_numbered}
 use Rattle.il_model.specs.Fits.{IsVariable, IsInstance, IsMark, IsConstant, AreItems}
 use Rattle.il_model.proofs.Versions.{items_may, version_again, version_is}
-use Rattle.il_loader.specs.declared.counts.Counts.{Counts}
+use Rattle.il_records.specs.declared.counts.Counts.{Counts}
 use Rattle.il_loader.specs.declared.word.Word.{Word}
-use Rattle.il_loader.specs.declared.fault.LoadFault.TheVariants.{BadMagic, BadCount, Trailing}
+use Rattle.il_records.specs.declared.fault.LoadFault.TheVariants.{BadMagic, BadCount, Trailing}
 use Rattle.il_loader.specs.Tables.{Tables, declared_in}
-use Rattle.il_loader.specs.Reading.{◌>>=◌, number_at, agrees, items_from, count_at, counts_at, lawful_version, header_at, variable_at, instance_at, mark_at, constant_at, next_word, ended, bodies_at, tables_at}
+use Rattle.il_loader.specs.Reading.{items_from, variable_at, instance_at, mark_at, next_word, ended, bodies_at, tables_at}
+use Rattle.il_records.specs.Fields.{◌>>=◌, number_at, agrees, count_at, counts_at, lawful_version, header_at, constant_at}
 use Rattle.il_loader.proofs.Fields.{IsBytes, bind_ok, agrees_ok, ok_is, Takes, Takes-then, wide16, wide32, number_takes, number_again}
 use Rattle.il_loader.proofs.Records.{variable_takes, variable_again, instance_takes, instance_again, mark_takes, mark_again, constant_takes, constant_again, may_read, IsNext, read_word_bytes, word_takes, word_again, HasItems, items_take, items_again}
 

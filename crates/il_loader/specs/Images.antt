@@ -18,11 +18,7 @@ use Rattle.il_model.specs.Typing.{loc_type, is_writable_area, IsTyped}
 use Rattle.il_model.specs.Constants.{operands_in}
 use Rattle.il_model.specs.Codes.{usage_of, allows, has_form, has_under}
 use Rattle.il_model.specs.Image.{spelling}
-use Rattle.il_loader.specs.declared.fault.LoadFault.{LoadFault}
-use Rattle.il_loader.specs.declared.fault.LoadFault.TheVariants.{Truncated, BadMagic, BadVersion, BadCount, BadWord}
-use Rattle.il_loader.specs.declared.fault.LoadFault.TheVariants.{BadType, BadTarget, Trailing}
-use Rattle.il_loader.specs.declared.fault.LoadError.{LoadError}
-use Rattle.il_loader.specs.declared.fault.LoadError.TheVariants as errors
+use Rattle.il_records.specs.declared.fault.LoadFault.{LoadFault}
 
 -- ---- well-formed programs
 
@@ -87,16 +83,3 @@ pub record ReadsImages (reading : Reading) : Type 0 where
   pub read : (Q : Program) → IsWellFormed Q → reading (spelling Q) ≡ Ok Q
   pub only : (bytes : List ℕ) (Q : Program) → AreBytes bytes → reading bytes ≡ Ok Q
       → IsWellFormed Q × (bytes ≡ spelling Q)
-
--- ---- the numbers of errors
-
-abbrev pub error_number : LoadError → ℕ
-error_number (errors.Fault Truncated) = 1
-error_number (errors.Fault BadMagic) = 2
-error_number (errors.Fault BadVersion) = 3
-error_number (errors.Fault BadCount) = 4
-error_number (errors.Fault (BadWord position)) = 5
-error_number (errors.Fault (BadType position)) = 6
-error_number (errors.Fault (BadTarget position)) = 7
-error_number (errors.Fault Trailing) = 8
-error_number errors.Memory = 9

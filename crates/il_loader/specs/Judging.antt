@@ -23,10 +23,11 @@ use Rattle.il_model.specs.Codes.{is_pointless, is_call}
 use Rattle.il_loader.specs.declared.word.Word.{Word}
 use Rattle.il_loader.specs.declared.word.Content.{Content}
 use Rattle.il_loader.specs.declared.word.Content.TheVariants as contents
-use Rattle.il_loader.specs.declared.fault.LoadFault.{LoadFault}
-use Rattle.il_loader.specs.declared.fault.LoadFault.TheVariants.{BadVersion, BadCount, BadWord, BadType, BadTarget}
+use Rattle.il_records.specs.declared.fault.LoadFault.{LoadFault}
+use Rattle.il_records.specs.declared.fault.LoadFault.TheVariants.{BadVersion, BadCount, BadWord, BadType, BadTarget}
 use Rattle.il_loader.specs.Tables.{Tables, operand_in, is_argument, lines_of}
-use Rattle.il_loader.specs.Reading.{◌>>=◌, agrees, tables_at}
+use Rattle.il_loader.specs.Reading.{tables_at}
+use Rattle.il_records.specs.Fields.{◌>>=◌, agrees}
 
 -- ---- places: records of one length are counted from the end
 

@@ -1,65 +1,27 @@
 -- Reading an image from left to right, with the first fault that is met.
-use Rattle.std.specs.Prelude.{◌≡◌, ℕ, ℤ, ◌-◌, zero, suc, Bool, true, false, ◌&&◌, List, [], ◌∷◌, ◌++◌, length, take, drop}
-use Rattle.std.specs.Prelude.{Option, Some, None, Result, Ok, Err, nat_lt, nat_le, nat_eq, if◌then◌else◌}
-use Rattle.std.specs.Int.{Width, w8, w16, w32, byte_len, from_be_bytes, cast_signed}
-use Rattle.il_model.specs.declared.limits.TheConstants.{MOST_VARIABLES, MOST_INSTANCES, MOST_INSTRUCTIONS}
-use Rattle.il_values.specs.declared.value.Ty.{Ty}
-use Rattle.il_model.specs.declared.program.Loc.{Loc}
+use Rattle.std.specs.Prelude.{ℕ, ◌-◌, zero, suc, Bool, ◌&&◌, List, [], ◌∷◌, ◌++◌, length}
+use Rattle.std.specs.Prelude.{Option, Some, None, Result, Ok, nat_eq}
+use Rattle.std.specs.Int.{w8, w16}
 use Rattle.il_model.specs.declared.program.Variable.{Variable}
 use Rattle.il_model.specs.declared.program.Instance.{Instance}
 use Rattle.il_model.specs.declared.program.Side.{Side}
 use Rattle.il_model.specs.Program.{Declarations}
-use Rattle.il_model.specs.Image.{magic, number_width, may_call}
+use Rattle.il_model.specs.Image.{may_call}
 use Rattle.il_model.specs.declared.codes.Version.{Version}
 use Rattle.il_model.specs.Kinds.{kind_of_code}
 use Rattle.il_loader.specs.declared.word.Content.TheVariants as contents
 use Rattle.il_values.specs.declared.value.Value.{Value}
 use Rattle.il_model.specs.Marks.{Mark}
-use Rattle.il_model.specs.Codes.{is_new_name, is_new_instance, is_new_label, length_in, type_in, version_numbered}
-use Rattle.il_model.specs.Codes.{coded_location_in, initial_of, constant_of, op_in, letters_of, label_there}
-use Rattle.il_model.specs.Codes.{word_operand_in, side_of, argument_number, argument_operand_in, retained_in}
-use Rattle.il_model.specs.Codes.{plain_code}
-use Rattle.il_loader.specs.declared.counts.Counts.{Counts}
+use Rattle.il_model.specs.Codes.{is_new_name, is_new_instance, is_new_label, type_in, coded_location_in, op_in}
+use Rattle.il_model.specs.Codes.{letters_of, label_there, word_operand_in, side_of, argument_number}
+use Rattle.il_model.specs.Codes.{argument_operand_in}
+use Rattle.il_records.specs.declared.counts.Counts.{Counts}
 use Rattle.il_loader.specs.declared.word.Word.{Word}
 use Rattle.il_loader.specs.Tables.{Tables}
-use Rattle.il_loader.specs.declared.fault.LoadFault.{LoadFault}
-use Rattle.il_loader.specs.declared.fault.LoadFault.TheVariants.{Truncated, BadMagic, BadVersion, BadCount, BadWord}
-use Rattle.il_loader.specs.declared.fault.LoadFault.TheVariants.{Trailing}
-use Rattle.il_loader.specs.declared.fault.LoadError.{LoadError}
-use Rattle.il_loader.specs.declared.fault.LoadError.TheVariants as errors
-
-infixl 10 ◌>>=◌
-abbrev pub ◌>>=◌ : {A B : Type 0} → Result A LoadFault → (A → Result B LoadFault) → Result B LoadFault
-(Ok x) >>= f = f x
-(Err e) >>= f = Err e
-
--- What a function returned, seen by view, is what reading gives, unless memory ran out.
-abbrev pub Fails : {Y : Type 0} → LoadError → Result Y LoadFault → Type 0
-Fails errors.Memory read = Unit {0}
-Fails (errors.Fault f) read = read ≡ Err f
-
-abbrev pub Gives : {X Y : Type 0} → (X → Y) → Result X LoadError → Result Y LoadFault → Type 0
-Gives view (Ok x) read = read ≡ Ok (view x)
-Gives view (Err e) read = Fails e read
-
-abbrev pub number_at : Width → List ℕ → Result (ℕ × List ℕ) LoadFault
-number_at w bytes = if nat_lt (length bytes) (byte_len w) then Err Truncated
-    else Ok (from_be_bytes w (take (byte_len w) bytes), drop (byte_len w) bytes)
-
--- a number as an image of this version has it
-abbrev pub signed_at : Version → List ℕ → Result (ℤ × List ℕ) LoadFault
-signed_at version bytes =
-    number_at (number_width version) bytes >>= λ n. Ok (cast_signed (number_width version) n.0, n.1)
-
--- what stands in a record that begins where pos says is lawful, or the fault is the record's
-abbrev pub lawful : {A : Type 0} → ℕ → Option A → Result A LoadFault
-lawful pos None = Err (BadWord pos)
-lawful pos (Some x) = Ok x
-
--- a test, and the fault where it fails
-abbrev pub agrees : LoadFault → Bool → Result (Unit {0}) LoadFault
-agrees fault true = Ok tt
-agrees fault false = Err fault
+use Rattle.il_records.specs.declared.fault.LoadFault.{LoadFault}
+use Rattle.il_records.specs.declared.fault.LoadFault.TheVariants.{BadWord, Trailing}
+use Rattle.il_records.specs.Fields.{◌>>=◌, number_at, lawful, agrees, header_at, spelled_name_at, first_value_at}
+use Rattle.il_records.specs.Fields.{declared_at, constant_at}
 
 -- as many items as a number says, each read with those before it at hand
 unfoldable pub items_from : {X : Type 0} → (List X → List ℕ → Result (X × List ℕ) LoadFault) → ℕ → List X → List ℕ
@@ -67,49 +29,7 @@ unfoldable pub items_from : {X : Type 0} → (List X → List ℕ → Result (X 
 items_from item zero seen bytes = Ok (seen, bytes)
 items_from item (suc n) seen bytes = item seen bytes >>= λ x. items_from item n (seen ++ x.0 ∷ []) x.1
 
--- ---- the header
-
-abbrev pub count_at : ℕ → List ℕ → Result (ℕ × List ℕ) LoadFault
-count_at limit bytes = number_at w16 bytes >>= λ n. agrees BadCount (nat_le n.0 limit) >>= λ _. Ok n
-
-unfoldable pub counts_at : List ℕ → Result (Counts × List ℕ) LoadFault
-counts_at bytes = do
-  variables ← count_at MOST_VARIABLES bytes
-  instances ← count_at MOST_INSTANCES variables.1
-  labels ← count_at MOST_INSTRUCTIONS instances.1
-  constants ← count_at 20480 labels.1
-  words ← count_at 36864 constants.1
-  Ok (
-    record {
-      variables = variables.0;
-      instances = instances.0;
-      labels = labels.0;
-      constants = constants.0;
-      words = words.0;
-    },
-    words.1,
-  )
-
-abbrev pub lawful_version : Option Version → Result Version LoadFault
-lawful_version None = Err BadVersion
-lawful_version (Some version) = Ok version
-
-unfoldable pub header_at : List ℕ → Result (Version × Counts × List ℕ) LoadFault
-header_at bytes = do
-  word ← number_at w32 bytes
-  is ← agrees BadMagic (nat_eq word.0 (from_be_bytes w32 magic))
-  number ← number_at w16 word.1
-  version ← lawful_version (version_numbered number.0)
-  counts ← counts_at number.1
-  Ok (version, counts.0, counts.1)
-
 -- ---- names
-
-unfoldable pub spelled_name_at : Version → ℕ → List ℕ → Result (List ℕ × List ℕ) LoadFault
-spelled_name_at version pos bytes = do
-  first ← number_at w8 bytes
-  n ← lawful pos (length_in version first.0)
-  if nat_lt (length first.1) n then Err Truncated else Ok (take n first.1, drop n first.1)
 
 -- a name that an image of this version may have, and that passes a test
 unfoldable pub name_at : Version → ℕ → (List ℕ → Bool) → List ℕ → Result (List ℕ × List ℕ) LoadFault
@@ -119,20 +39,6 @@ name_at version pos is_new bytes = do
   Ok name
 
 -- ---- records; a fault in one stands where it begins
-
--- the first value of a variable with this type and location
-unfoldable pub first_value_at : Version → ℕ → Ty → Option Loc → List ℕ → Result (Value × List ℕ) LoadFault
-first_value_at version pos type loc bytes = do
-  number ← signed_at version bytes
-  value ← lawful pos (initial_of type loc number.0)
-  Ok (value, number.1)
-
--- the code of a declaration: whether what it declares is retained, and the code of its type or kind
-unfoldable pub declared_at : Version → ℕ → List ℕ → Result ((Bool × ℕ) × List ℕ) LoadFault
-declared_at version pos bytes = do
-  code ← number_at w8 bytes
-  retained ← lawful pos (retained_in version code.0)
-  Ok ((retained, plain_code code.0), code.1)
 
 unfoldable pub variable_at : Version → ℕ → List Variable → List ℕ → Result (Variable × List ℕ) LoadFault
 variable_at version total seen bytes = do
@@ -158,14 +64,6 @@ mark_at version total seen bytes = do
   name ← name_at version (total - length bytes) (is_new_label seen) bytes
   address ← number_at w16 name.1
   Ok (record { name = name.0; at = address.0 }, address.1)
-
-unfoldable pub constant_at : Version → ℕ → List Value → List ℕ → Result (Value × List ℕ) LoadFault
-constant_at version total seen bytes = do
-  code ← number_at w8 bytes
-  type ← lawful (total - length bytes) (type_in version code.0)
-  number ← signed_at version code.1
-  value ← lawful (total - length bytes) (constant_of seen type number.0)
-  Ok (value, number.1)
 
 -- behind its code, the n-th word where it is an instruction
 unfoldable pub instruction_at : Version → ℕ → Declarations → List Mark → List Value → ℕ → ℕ → List ℕ

@@ -4,19 +4,18 @@ ghost use Rattle.std.specs.Prelude.{◌≡◌, ◌+◌, ◌<◌, ◌^◌, false,
 ghost use Rattle.std.specs.List.{position};
 ghost use Rattle.il_model.specs.Constants.{step_used};
 ghost use Rattle.il_loader.specs.Tables.{operand_in, is_argument};
-ghost use Rattle.il_loader.specs.declared.fault.LoadFault.TheVariants.{BadVersion};
-ghost use Rattle.il_loader.specs.Reading.{Gives, agrees};
+ghost use Rattle.il_records.specs.declared.fault.LoadFault.TheVariants.{BadVersion};
+ghost use Rattle.il_records.specs.Fields.{Gives, agrees};
 ghost use Rattle.il_loader.specs.Judging.{word_place, constant_length, constant_place, label_place, is_start, risen};
 ghost use Rattle.il_loader.specs.Judging.{constant_in, used_from, sooner, says_nothing, takes_argument, stray_from};
 ghost use Rattle.il_loader.specs.Judging.{misspelled, type_fault, words_fine, all_used, is_same, is_own_version};
 
-use crate::fault::{LoadError, LoadFault};
 use crate::label::Label;
-use crate::reading::agrees;
 use crate::word::{Content, Word};
 use il_model::{
     CodedOperand, Op, Operand, Program, TypeFault, Value, Version, is_pointless, version_with,
 };
+use il_records::{LoadError, LoadFault, agrees};
 
 fn word_place(total: usize, count: usize, n: usize) -> usize
     ensures { result ≡ word_place total count n }

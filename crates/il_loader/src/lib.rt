@@ -1,5 +1,5 @@
 //! Images from bytes: exactly the spellings of typed programs are loaded, each to its program. It uses il_model, where
-//! the spelling and the typing are defined.
+//! the spelling and the typing are defined, and il_records, which reads the fields.
 //!
 //! ```rust
 //! let image = il_loader::load(alloc, bytes.as_slice()).ok()?;
@@ -16,9 +16,7 @@
 #![tactic(auto)]
 
 mod action;
-mod counts;
 mod declared;
-mod fault;
 mod grouping;
 mod image;
 mod instance;
@@ -36,7 +34,7 @@ mod variable;
 mod word;
 
 pub use action::Action;
-pub use fault::{LoadError, LoadFault};
+pub use il_records::{LoadError, LoadFault};
 pub use image::Image;
 pub use laws::{know_reading, know_well_formed};
 pub use line::Line;

@@ -8,15 +8,15 @@ ghost use Rattle.il_model.specs.Image.{may_name};
 ghost use Rattle.il_model.specs.Codes.{if_passes, word_operand_in, argument_operand_in};
 ghost use Rattle.il_model.specs.Codes.{label_there, target_name, variable_named, instance_named, field_named};
 ghost use Rattle.il_model.specs.Codes.{named_operand, value_operand, numbered_operand, word_operand, argument_operand};
-ghost use Rattle.il_loader.specs.Reading.{Gives};
+ghost use Rattle.il_records.specs.Fields.{Gives};
 
 use crate::declared::{Declared, SymbolTables};
-use crate::fault::LoadError;
 use crate::label::Labels;
 use il_model::{
     CodedOperand, Instance, Loc, Modifier, Name, Op, Operand, Value, Variable, Version, is_formed,
     is_passed,
 };
+use il_records::LoadError;
 use std::alloc::Global;
 
 /// The name of the first label at an address.

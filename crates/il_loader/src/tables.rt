@@ -1,19 +1,17 @@
 //! The tables of an image as a whole.
 
 ghost use Rattle.std.specs.Prelude.{◌≡◌};
-ghost use Rattle.il_loader.specs.Reading.{Gives, bodies_at, tables_at};
+ghost use Rattle.il_loader.specs.Reading.{bodies_at, tables_at};
+ghost use Rattle.il_records.specs.Fields.{Gives};
 
-use crate::counts::Counts;
 use crate::declared::{Declared, SymbolTables};
-use crate::fault::{LoadError, LoadFault};
 use crate::instance::Instances;
 use crate::label::Labels;
-use crate::reading::{
-    agrees, constants_of, header_at, instances_of, labels_of, variables_of, words_of,
-};
+use crate::reading::{constants_of, instances_of, labels_of, variables_of, words_of};
 use crate::variable::Variables;
 use crate::word::Word;
 use il_model::{Constants, Version};
+use il_records::{Counts, LoadError, LoadFault, agrees, header_at};
 use std::alloc::Global;
 use std::marker::Model;
 

@@ -8,10 +8,10 @@ use Rattle.il_model.specs.Image.{spelling}
 use Rattle.il_model.proofs.Declaring.{declared_image}
 use Rattle.il_model.proofs.SettledPrograms.{typed_only}
 use Rattle.il_assembler.specs.Assembled.{IsSpelled}
-use Rattle.il_loader.specs.declared.fault.LoadFault.{LoadFault}
-use Rattle.il_loader.specs.declared.fault.LoadError.{LoadError}
-use Rattle.il_loader.specs.declared.fault.LoadError.TheVariants as errors
-use Rattle.il_loader.specs.Reading.{Fails}
+use Rattle.il_records.specs.declared.fault.LoadFault.{LoadFault}
+use Rattle.il_records.specs.declared.fault.LoadError.{LoadError}
+use Rattle.il_records.specs.declared.fault.LoadError.TheVariants as errors
+use Rattle.il_records.specs.Fields.{Fails}
 use Rattle.il_text.specs.Meaning.{IsProgramOf, IsImageOfText}
 
 ok_is : (Q i : Program) → (let r : Result Program LoadFault = Ok Q in r ≡ Ok i) → Q ≡ i

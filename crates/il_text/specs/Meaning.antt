@@ -16,7 +16,7 @@ use Rattle.il_declarations.specs.declared.fault.Fault as declaration_faults
 use Rattle.il_declarations.specs.declared.fault.DeclError.TheVariants as declaration_errors
 use Rattle.il_assembler.specs.Assembled.{IsFirstFault as IsFirstTypeFault}
 use Rattle.il_assembler.specs.declared.fault.AsmError.TheVariants as assembly_errors
-use Rattle.il_loader.specs.declared.fault.LoadFault.{LoadFault}
+use Rattle.il_records.specs.declared.fault.LoadFault.{LoadFault}
 use Rattle.il_loader.specs.Judging.{image_of}
 use Rattle.il_text.specs.Telling.{of_read, of_declaration, of_assembly, of_bytes, status_of}
 use Rattle.il_text.specs.declared.fault.Fault.{Fault}

@@ -17,11 +17,11 @@ use Rattle.il_declarations.specs.declared.fault.DeclError.TheVariants as declara
 use Rattle.il_declarations.specs.FirstFault as Kinds
 use Rattle.il_assembler.specs.declared.fault.AsmError.{AsmError}
 use Rattle.il_assembler.specs.declared.fault.AsmError.TheVariants as assemblies
-use Rattle.il_loader.specs.declared.fault.LoadError.{LoadError}
-use Rattle.il_loader.specs.declared.fault.LoadFault.{LoadFault}
-use Rattle.il_loader.specs.declared.fault.LoadFault.TheVariants.{Truncated, BadMagic, BadVersion, BadCount, BadWord}
-use Rattle.il_loader.specs.declared.fault.LoadFault.TheVariants.{BadType, BadTarget, Trailing}
-use Rattle.il_loader.specs.declared.fault.LoadError.TheVariants as loads
+use Rattle.il_records.specs.declared.fault.LoadError.{LoadError}
+use Rattle.il_records.specs.declared.fault.LoadFault.{LoadFault}
+use Rattle.il_records.specs.declared.fault.LoadFault.TheVariants.{Truncated, BadMagic, BadVersion, BadCount, BadWord}
+use Rattle.il_records.specs.declared.fault.LoadFault.TheVariants.{BadType, BadTarget, Trailing}
+use Rattle.il_records.specs.declared.fault.LoadError.TheVariants as loads
 use Rattle.il_text.specs.declared.fault.Fault.{Fault}
 use Rattle.il_text.specs.declared.fault.Fault.TheVariants as faults
 

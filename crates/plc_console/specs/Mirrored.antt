@@ -5,7 +5,7 @@ use Rattle.il_model.specs.declared.command.Answer.TheVariants.{Done}
 use Rattle.il_model.specs.declared.command.Command.{Command}
 use Rattle.il_model.specs.declared.command.Command.TheVariants.{Change}
 use Rattle.il_model.specs.Program.{Program}
-use Rattle.il_loader.specs.declared.fault.LoadFault.{LoadFault}
+use Rattle.il_records.specs.declared.fault.LoadFault.{LoadFault}
 use Rattle.il_loader.specs.Judging.{image_of}
 use Rattle.ctl_model.specs.declared.phase.Phase.TheVariants.{Idle}
 use Rattle.ctl_debugger.specs.Owned.{Owned}

@@ -1,7 +1,7 @@
 -- A fault of a text, of bytes or of a schedule is one of input.
 use Rattle.std.proofs.Common.{◌≡◌, inl, inr, ℕ, List, ap, ◌∙◌, refl}
-use Rattle.il_loader.specs.declared.fault.LoadFault.{LoadFault}
-use Rattle.il_loader.specs.declared.fault.LoadFault.TheVariants.{Truncated, BadMagic, BadVersion, BadCount, BadWord, BadType, BadTarget, Trailing}
+use Rattle.il_records.specs.declared.fault.LoadFault.{LoadFault}
+use Rattle.il_records.specs.declared.fault.LoadFault.TheVariants.{Truncated, BadMagic, BadVersion, BadCount, BadWord, BadType, BadTarget, Trailing}
 use Rattle.plc_json.specs.declared.event.NamedEvent.{NamedEvent}
 use Rattle.il_text.specs.declared.fault.Fault.{Fault}
 use Rattle.il_text.specs.Meaning.{IsTextFault, IsImageFault}

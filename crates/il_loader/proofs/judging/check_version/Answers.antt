@@ -5,8 +5,8 @@ use Rattle.il_model.specs.declared.program.Instance.{Instance}
 use Rattle.il_model.specs.declared.program.Instr.{Instr}
 use Rattle.il_model.specs.Program.{Program}
 use Rattle.il_model.specs.Image.{version_with}
-use Rattle.il_loader.specs.declared.fault.LoadFault.TheVariants.{BadVersion}
-use Rattle.il_loader.specs.Reading.{Gives, agrees}
+use Rattle.il_records.specs.declared.fault.LoadFault.TheVariants.{BadVersion}
+use Rattle.il_records.specs.Fields.{Gives, agrees}
 use Rattle.il_loader.specs.Judging.{is_same, is_own_version}
 use Rattle.il_loader.proofs.judging.check_version.Goals as goal
 

@@ -1,6 +1,7 @@
 use Rattle.std.proofs.Common.{[]}
 use Rattle.std.proofs.lemmas.Result.{err_from_is_err_and}
-use Rattle.il_loader.specs.Reading.{items_from, constant_at}
+use Rattle.il_loader.specs.Reading.{items_from}
+use Rattle.il_records.specs.Fields.{constant_at}
 use Rattle.il_loader.proofs.Loop.{goes_on, ends, is_done}
 use Rattle.il_loader.proofs.reading.constants_of.Goals as goal
 

@@ -1,5 +1,6 @@
 use Rattle.std.proofs.Common.{◌≡◌, ◌-◌, []}
-use Rattle.il_loader.specs.Reading.{items_from, constant_at}
+use Rattle.il_loader.specs.Reading.{items_from}
+use Rattle.il_records.specs.Fields.{constant_at}
 use Rattle.il_loader.proofs.reading.constants_of.Given as goal
 
 abbrev pub invariant-loop : goal.invariant-loop

@@ -1,7 +1,8 @@
 use Rattle.std.proofs.Common.{◌≡◌, List, [], Ok, subst}
 use Rattle.std.proofs.lemmas.Result.{err_from_is_err_and}
 use Rattle.il_loader.specs.declared.word.Word.{Word}
-use Rattle.il_loader.specs.Reading.{Fails, items_from, next_word}
+use Rattle.il_loader.specs.Reading.{items_from, next_word}
+use Rattle.il_records.specs.Fields.{Fails}
 use Rattle.il_loader.proofs.Loop.{goes_on, ends, is_done}
 use Rattle.il_loader.proofs.reading.words_of.Goals as goal
 

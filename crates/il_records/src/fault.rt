@@ -1,7 +1,7 @@
 //! Why bytes are no image.
 
 ghost use Rattle.std.specs.Prelude.{◌≡◌};
-ghost use Rattle.il_loader.specs.declared.fault.LoadError.TheVariants.{Memory};
+ghost use Rattle.il_records.specs.declared.fault.LoadError.TheVariants.{Memory};
 
 use std::alloc::{AllocError, AllocFailed};
 use thiserror::Error;
@@ -45,7 +45,7 @@ pub enum LoadError {
 }
 
 impl LoadError {
-    ghost use Rattle.il_loader.specs.Images.{error_number};
+    ghost use Rattle.il_records.specs.Faults.{error_number};
 
     /// The number of an error, from 1 in the order of this page; want of memory is 9.
     pub fn number(self) -> u8
