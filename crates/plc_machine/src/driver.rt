@@ -4,10 +4,10 @@ ghost use Rattle.std.specs.Prelude.{◌≡◌, ◌↔◌, ◌&&◌, List, None, 
 ghost use Rattle.std.specs.Prelude.{is_some, not};
 ghost use Rattle.std.specs.Duration.{as_nanos};
 ghost use Rattle.il_model.specs.declared.command.Command.{Command as Asked};
-ghost use Rattle.vr_client.specs.Client.{SendsAt, answer_by, new_client};
+ghost use Rattle.vr_client.specs.Client.{BecomesAt, SendsAt, answer_by, new_client};
 ghost use Rattle.vr_model.specs.Logs.{Request as Entry};
-ghost use Rattle.vr_model.specs.StandsFor.{body_with};
-ghost use Rattle.vr_model.specs.Steps.{Retries};
+ghost use Rattle.vr_model.specs.StandsFor.{body_with, message_with};
+ghost use Rattle.vr_model.specs.Steps.{Hears, Retries};
 ghost use Rattle.io_driver.specs.Driver.{release_by};
 ghost use Rattle.plc_machine.specs.Driving.{GivesUp, IsKept, Looks, Shows, SubmitsScan, TakesReply};
 ghost use Rattle.plc_machine.specs.Driving.{client_starts, shown_by};
@@ -200,6 +200,8 @@ impl MachineDriver {
     /// has an image. That is shown from now on. A scan that is held has no image: behind its REPLY what is shown stays,
     /// as fresh as that scan, since a majority has it, and whoever leads next waits until it's no longer fresh.
     pub fn on_reply(&mut self, message: &Message) -> Option<Release>
+        ensures heard { (log : List (Entry Asked))
+            → BecomesAt self.old.driver (Hears (message_with log message.now)) self.new.driver }
         ensures release { (log : List (Entry Asked))
             → result ≡ release_by self.old.driver.state (body_with log message.now.body) }
         ensures shown { (log : List (Entry Asked))

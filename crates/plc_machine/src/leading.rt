@@ -4,6 +4,7 @@ ghost use Rattle.std.specs.Prelude.{◌≡◌, IsTrue};
 ghost use Rattle.std.specs.Duration.{as_nanos};
 ghost use Rattle.plc_machine.specs.Leading.{Begins, Follows, led_view, moment_at, next_due, opens_from, starts_from};
 
+use il_model::InImage;
 use std::time::Duration;
 use vr_model::Standing;
 
@@ -14,6 +15,13 @@ pub struct LastScan {
     pub moment: u64,
     /// When it came in here.
     pub came: Duration,
+}
+
+/// The last scan in that log, with its inputs.
+#[derive(Clone, Copy, Debug, PartialEq, Eq)]
+pub struct SeenScan {
+    pub last: LastScan,
+    pub inputs: InImage,
 }
 
 /// How long it is from scan to scan, and how long outputs are shown.

@@ -28,5 +28,5 @@ mod making;
 
 pub use driver::{MachineDriver, NumbersUsedUp, client_starts};
 pub use laws::{moments_rise, no_two_show, what_is_formatted_starts};
-pub use leading::{Course, LastScan, Lead, Pace, led_view};
+pub use leading::{Course, LastScan, Lead, Pace, SeenScan, led_view};
 pub use making::{NotMade, group_identity_of, new_store, waiting_store, wanted};
