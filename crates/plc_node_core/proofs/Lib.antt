@@ -1,0 +1,4 @@
+pub mod Stages
+pub mod Leading
+pub mod Quieting
+pub mod Rows
