@@ -23,7 +23,7 @@
 //! }
 //! ```
 //!
-//! To be proved, and not checked yet: what is said is due by the table of actions, and nothing is said only where
+//! Proved: what is said is due by the table of actions, and nothing is said only where
 //! nothing is due (`IsDue`, `IsNodeDue`). Its stage gets what it inherits behind a closed port alone, and no sample is
 //! taken before that; as long as its stage is still to get inputs, no scan waits and nothing is shown. What it submits
 //! is one sample's scan, as of a machine that leads (`SubmitsScan`). Its port is to open only where outputs are shown,
