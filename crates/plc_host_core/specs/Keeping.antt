@@ -11,6 +11,7 @@ use Rattle.plc_epochs.specs.Table.{HearsHello, HearsRecovery, kept_in, question_
 use Rattle.plc_host_core.specs.declared.epoch_keeper.EpochAction.{EpochAction}
 use Rattle.plc_host_core.specs.declared.epoch_keeper.EpochAction.TheVariants as actions
 use Rattle.plc_host_core.specs.declared.epoch_keeper.EpochNotice.TheVariants as notices
+use Rattle.plc_host_core.specs.declared.epoch_keeper.LifeEnd.TheVariants as ends
 use Rattle.plc_host_core.specs.declared.epoch_keeper.EpochKeeper.{EpochKeeper}
 
 -- What is done by a step, where its store is to have this then.
@@ -23,13 +24,13 @@ action_by steps.AsksAgain kept = actions.Rests
 action_by (steps.Confirms word) kept = actions.Answers word
 action_by (steps.Declines word) kept = actions.Answers word
 action_by steps.HearsMarked kept = actions.Tells notices.Marked
-action_by (steps.Ends epoch) kept = actions.Leaves kept
-action_by (steps.Hears epoch) kept = actions.Leaves kept
+action_by (steps.Ends epoch) kept = actions.Leaves ends.EpochEnded kept
+action_by (steps.Hears epoch) kept = actions.Leaves ends.LaterHeard kept
 action_by (steps.Refuses epoch) kept = actions.Tells (notices.Refused epoch)
 action_by (steps.FarAbove epoch) kept = actions.Tells (notices.FarAbove epoch)
 action_by (steps.OtherProgram epoch) kept = actions.Tells (notices.OtherProgram epoch)
 action_by (steps.Before epoch) kept = actions.Rests
-action_by (steps.WaitsAbove epoch) kept = actions.Leaves kept
+action_by (steps.WaitsAbove epoch) kept = actions.Leaves ends.WaitsAbove kept
 action_by (steps.Enters epoch) kept = actions.Rests
 action_by (steps.Begins epoch) kept = actions.Keeps kept
 action_by (steps.Starts epoch) kept = actions.Starts
@@ -37,7 +38,7 @@ action_by (steps.Thaws nonce) kept = actions.Thaws nonce
 
 -- an action by which its life is over
 abbrev pub ends_life : EpochAction → Bool
-ends_life (actions.Leaves kept) = true
+ends_life (actions.Leaves why kept) = true
 ends_life actions.Rests = false
 ends_life (actions.Answers word) = false
 ends_life (actions.Tells notice) = false

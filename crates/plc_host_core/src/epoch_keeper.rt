@@ -29,6 +29,17 @@ pub enum EpochNotice {
     OtherProgram(Epoch),
 }
 
+/// Why the life of a machine is over.
+#[derive(Clone, Copy, Debug, PartialEq, Eq)]
+pub enum LifeEnd {
+    /// Its epoch can't go on.
+    EpochEnded,
+    /// Another machine is in a later epoch.
+    LaterHeard,
+    /// Its disk was lost: it waits for an epoch above those of the others.
+    WaitsAbove,
+}
+
 /// What the thread of a replica is to do about epochs.
 #[derive(Clone, Copy)]
 pub enum EpochAction {
@@ -43,8 +54,8 @@ pub enum EpochAction {
     Starts,
     /// Its replica crashes, and recovers anew under this nonce.
     Thaws(u64),
-    /// The life of its machine is over, and the store is to have this.
-    Leaves(Kept),
+    /// The life of its machine is over for that, and the store is to have this.
+    Leaves(LifeEnd, Kept),
 }
 
 /// What a machine asks all others, and in which epoch.
@@ -88,7 +99,9 @@ fn action_by(step: Step, kept: Kept) -> EpochAction
         Step::Refuses(epoch) => EpochAction::Tells(EpochNotice::Refused(epoch)),
         Step::FarAbove(epoch) => EpochAction::Tells(EpochNotice::FarAbove(epoch)),
         Step::OtherProgram(epoch) => EpochAction::Tells(EpochNotice::OtherProgram(epoch)),
-        Step::Ends(_) | Step::Hears(_) | Step::WaitsAbove(_) => EpochAction::Leaves(kept),
+        Step::Ends(_) => EpochAction::Leaves(LifeEnd::EpochEnded, kept),
+        Step::Hears(_) => EpochAction::Leaves(LifeEnd::LaterHeard, kept),
+        Step::WaitsAbove(_) => EpochAction::Leaves(LifeEnd::WaitsAbove, kept),
         Step::Begins(_) => EpochAction::Keeps(kept),
         Step::Starts(_) => EpochAction::Starts,
         Step::Thaws(nonce) => EpochAction::Thaws(nonce),
@@ -105,7 +118,7 @@ fn action_by(step: Step, kept: Kept) -> EpochAction
 fn ends_life(action: &EpochAction) -> bool
     ensures { result ≡ spec.ends_life action.now }
 {
-    matches!(action, EpochAction::Leaves(_))
+    matches!(action, EpochAction::Leaves(_, _))
 }
 
 /// Whether by this step what is asked is said at once.

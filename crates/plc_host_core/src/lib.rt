@@ -9,7 +9,7 @@
 //!     EpochAction::Keeps(kept) => .., // the store is to have this; then `stored`
 //!     EpochAction::Starts => .., // its replica starts, normal in view 0
 //!     EpochAction::Thaws(nonce) => .., // its replica crashes, and recovers anew under this nonce
-//!     EpochAction::Leaves(kept) => .., // this life is over: all of it is closed, and the store is to have this
+//!     EpochAction::Leaves(why, kept) => .., // this life is over: all of it is closed, and the store is to have this
 //!     EpochAction::Tells(notice) => .., // an operator is told
 //!     EpochAction::Rests => {}
 //! }
@@ -24,4 +24,5 @@
 mod epoch_keeper;
 mod reaching;
 
-pub use epoch_keeper::{EpochAction, EpochKeeper, EpochNotice, Question};
+pub use epoch_keeper::{EpochAction, EpochKeeper, EpochNotice, LifeEnd, Question};
+pub use reaching::{is_answer, recovering_in};
