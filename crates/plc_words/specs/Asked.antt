@@ -4,7 +4,7 @@ use Rattle.std.specs.String.{string_bytes}
 use Rattle.std.specs.Io.KnownBytes.{Appends}
 use Rattle.io_model.specs.declared.counted.CountedWrite.{Ghosts as CountedWriter}
 use Rattle.il_text.specs.declared.fault.Fault.TheVariants as faults
-use Rattle.il_text.specs.Telling.{IsTold, WentOut, fault_line}
+use Rattle.il_text.specs.Telling.{WentOut, fault_line}
 use Rattle.plc_words.specs.declared.forms.Words.{Words}
 use Rattle.plc_words.specs.declared.error.WordsError.{WordsError}
 use Rattle.plc_words.specs.declared.forms.Words.TheVariants as words
@@ -17,12 +17,17 @@ IsLostAfterAMinute _ = Unit {0}
 
 -- ---- where they ask for no work
 
+-- the line of a text of help that wasn't shown: the output failed, or memory ran out
+abbrev pub TellsUnshown : {W : Type 0} → CountedWriter W → W → W → Type 0
+TellsUnshown w old new =
+    WentOut w (codes "plc: device output\n") old new ⊎ WentOut w (fault_line faults.Memory) old new
+
 -- why words ask for no work: the text of help on the output; else a line on the other stream
 abbrev pub IsToldOfWords : {W : Type 0}
     → CountedWriter W → WordsError → ℕ → Option (List ℕ) → Option (List ℕ) → W → W → Type 0
 IsToldOfWords w (errors.Shown text) status out out_after old new =
     ((status ≡ 0) × Appends out out_after (string_bytes text) × (new ≡ old))
-    ⊎ ((status ≡ 2) × IsTold w (λ fault. ⊥) status old new)
+    ⊎ ((status ≡ 2) × TellsUnshown w old new)
 IsToldOfWords w (errors.Bad text) status out out_after old new =
     (status ≡ 3) × (out_after ≡ out) × WentOut w (string_bytes text) old new
 IsToldOfWords w errors.NotText status out out_after old new =

@@ -1,8 +1,8 @@
 //! What is told where words ask for no work.
 
-ghost use Rattle.std.specs.Prelude.{OnOk};
+ghost use Rattle.std.specs.Prelude.{◌≡◌, OnOk};
 ghost use Rattle.std.specs.Io.KnownBytes.{Appends};
-ghost use Rattle.plc_words.specs.Asked.{IsToldOfWords};
+ghost use Rattle.plc_words.specs.Asked.{IsToldOfWords, TellsUnshown};
 
 use crate::error::WordsError;
 use il_text::{Fault, put, tell};
@@ -14,14 +14,14 @@ use std::io::Write;
 const BAD_WORDS: u8 = 3;
 
 /// Tells why words ask for no work, and answers the status: 0 where help or the version was shown, 3 where the words
-/// are bad, and that of the fault where the stream failed or memory ran out.
+/// are bad, and 2 where standard output failed or memory ran out.
 pub fn tell_words<W: Write, E: CountedWrite>(error: &WordsError, out: &mut W, err: &mut E) -> u8
     ensures { IsToldOfWords E.CountedWrite error.now result (W.contents out.old) (W.contents out.new) err.old err.new }
 {
     match error {
         WordsError::Shown(text) => match shown(text.as_str(), out) {
             Ok(()) => 0,
-            Err(error) => tell(Fault::from(error), err),
+            Err(error) => tell_unshown(&error, err),
         },
         WordsError::Bad(text) => {
             let _ = put(err, text.as_str().as_bytes());
@@ -40,4 +40,16 @@ fn shown<W: Write>(text: &str, out: &mut W) -> io::Result<()>
 {
     out.write_all(text.as_bytes())?;
     out.flush()
+}
+
+/// Tells why help or the version wasn't shown, and answers the status.
+fn tell_unshown<E: CountedWrite>(error: &io::Error, err: &mut E) -> u8
+    ensures status { result ≡ 2 }
+    ensures line { TellsUnshown E.CountedWrite err.old err.new }
+{
+    if error.kind() == io::ErrorKind::OutOfMemory {
+        return tell(Fault::Memory, err);
+    }
+    let _ = put(err, b"plc: device output\n");
+    Fault::Device.status()
 }
