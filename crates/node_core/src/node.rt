@@ -172,16 +172,26 @@ impl Node {
         if self.ended.is_some() {
             return Ok(());
         }
-        // The port is closed by now behind which clients wrote in a view before.
-        if let Some(inputs) = self.inherited.take() {
-            fill(stage, &inputs);
-        }
         if shown.has_failed || !self.follow(shown, now) {
             return self.end(Ended::Failed, deeds);
         }
-        if self.inherited.is_none() {
-            self.scan(alloc, now, stage, deeds)?;
+        self.act(alloc, now, stage, deeds)
+    }
+
+    /// What is due is done: its stage gets what it inherits, a scan is submitted, and its port opens or closes.
+    fn act<S: Staging>(
+        &mut self,
+        alloc: Global,
+        now: Duration,
+        stage: &mut S,
+        deeds: &mut Vec<NodeDeed>,
+    ) -> Result<(), AllocError> {
+        if let Some(inputs) = self.inherited.take() {
+            // Nothing is shown yet: so the port closes first behind which clients wrote in a view before.
+            self.tend_port(now, deeds)?;
+            fill(stage, &inputs);
         }
+        self.scan(alloc, now, stage, deeds)?;
         self.tend_port(now, deeds)
     }
 
@@ -263,13 +273,9 @@ impl Node {
         Ok(())
     }
 
-    /// Takes a message of its group: where it's the reply that is waited for, what it releases is published.
-    pub fn reply(
-        &mut self,
-        now: Duration,
-        message: &Message,
-        deeds: &mut Vec<NodeDeed>,
-    ) -> Result<(), AllocError>
+    /// Takes a message of its group: where it's the reply that is waited for, what it releases is published. A turn
+    /// comes behind it at once.
+    pub fn reply(&mut self, message: &Message, deeds: &mut Vec<NodeDeed>) -> Result<(), AllocError>
         ensures over { IsSome self.old.ended → (self.new ≡ self.old) × (deeds.new.items ≡ deeds.old.items) }
     {
         if self.ended.is_some() {
@@ -278,6 +284,6 @@ impl Node {
         if let Some(release) = self.driver.on_reply(message) {
             deeds.push(NodeDeed::Publish(release, self.submitted))?;
         }
-        self.tend_port(now, deeds)
+        Ok(())
     }
 }

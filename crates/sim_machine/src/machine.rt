@@ -279,7 +279,7 @@ impl Machine {
         Ok(Some((deeds, next)))
     }
 
-    /// A message for its driver: what is to be done.
+    /// A message for its driver, which has a turn behind it at once: what is to be done.
     pub fn reply(
         &mut self,
         alloc: Global,
@@ -288,8 +288,9 @@ impl Machine {
     ) -> Result<Vec<NodeDeed>, AllocError> {
         let local = micros(self.local(now));
         let mut deeds = Vec::new(alloc);
-        if let Some(node) = &mut self.node {
-            node.reply(local, message, &mut deeds)?;
+        if let (Some(node), Some(shown)) = (&mut self.node, self.shown) {
+            node.reply(message, &mut deeds)?;
+            node.turn(alloc, local, &shown, &mut self.stage, &mut deeds)?;
         }
         Ok(deeds)
     }
