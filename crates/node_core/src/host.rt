@@ -2,16 +2,18 @@
 
 ghost use Rattle.std.specs.Prelude.{◌≡◌, false};
 ghost use Rattle.vr_model.specs.declared.message.Message.{Message};
-ghost use Rattle.node_core.specs.Reaching.{lets_through};
+ghost use Rattle.plc_host_core.specs.Reaching.{lets_through};
 ghost use Rattle.node_core.specs.declared.host.HostEvent.TheVariants as events;
 ghost use Rattle.node_core.specs.declared.host.Phase.TheVariants.{Left};
 
 use crate::joints::{down, millis};
-use crate::scan_watch::{ScanWatch, SeenScan};
+use crate::scan_watch::ScanWatch;
 use il_loader::Image;
 use il_model::Budget;
 use net_hello::Epoch;
-use plc_epochs::{ColdStart, Greeting, Kept, Moment, Place, Step, Word};
+use plc_epochs::{ColdStart, Greeting, Kept, Moment, Place, Word};
+use plc_host_core::{EpochAction, EpochKeeper};
+use plc_machine::SeenScan;
 use std::alloc::{AllocError, Global};
 use std::time::Duration;
 use vr_model::{Config, Message, Standing, Stored};
@@ -96,7 +98,7 @@ pub(crate) enum Phase {
 #[derive(Drop)]
 pub struct Host {
     pub(crate) setup: HostSetup,
-    pub(crate) cold_start: ColdStart,
+    pub(crate) keeper: EpochKeeper,
     pub(crate) phase: Phase,
     pub(crate) replica: Option<Replica>,
     pub(crate) timer: GroupPatience,
@@ -108,8 +110,6 @@ pub struct Host {
     pub(crate) reached: u8,
     /// When it looked at its epoch last.
     pub(crate) looked: Option<Moment>,
-    /// When it said last what it asks.
-    pub(crate) asked: Option<Moment>,
 }
 
 /// Where a host is whose life begins, by what its store has of epochs.
@@ -134,7 +134,7 @@ impl Host {
         let timer = GroupPatience::new(setup.config, setup.number, setup.times);
         Host {
             setup,
-            cold_start,
+            keeper: EpochKeeper::new(cold_start),
             phase: phase_of(kept),
             replica: None,
             timer,
@@ -143,7 +143,6 @@ impl Host {
             has_begins: true,
             reached: 0,
             looked: None,
-            asked: None,
         }
     }
 
@@ -157,7 +156,7 @@ impl Host {
 
     /// The epoch in which it says hello; number 0 where it's in none.
     pub fn greeting(&self) -> Epoch {
-        match self.cold_start.greeting() {
+        match self.keeper.cold_start().greeting() {
             Greeting::Hello(epoch) => epoch,
             _ => Epoch {
                 number: 0,
@@ -168,7 +167,7 @@ impl Host {
 
     /// The epoch in which it takes part.
     pub fn epoch(&self) -> Option<Epoch> {
-        self.cold_start.speaks_in()
+        self.keeper.cold_start().speaks_in()
     }
 
     /// Whether its life is over.
@@ -208,7 +207,7 @@ impl Host {
     ) -> Result<(), AllocError>
         ensures over { self.old.phase ≡ Left → (self.new ≡ self.old) × (deeds.new.items ≡ deeds.old.items) }
         ensures frozen { (message : Message) → event ≡ events.Message message
-            → lets_through self.old.cold_start.phase message ≡ false
+            → lets_through self.old.keeper.cold_start.phase message ≡ false
             → (self.new ≡ self.old) × (deeds.new.items ≡ deeds.old.items) }
     {
         if self.phase == Phase::Left {
@@ -232,7 +231,7 @@ impl Host {
 
     /// The store has this of epochs.
     fn kept(&mut self, kept: Kept, deeds: &mut Vec<HostDeed>) -> Result<(), AllocError> {
-        if let Step::Starts(_) = self.cold_start.stored(&kept) {
+        if let EpochAction::Starts = self.keeper.stored(&kept) {
             self.phase = Phase::Counting;
             deeds.push(HostDeed::Begin)?;
         }

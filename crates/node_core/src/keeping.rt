@@ -1,13 +1,11 @@
 //! What the thread of a replica does about the epochs of its group.
 
 use crate::host::{Host, HostDeed, Phase};
-use crate::joints::{is_among, is_past};
+use crate::joints::is_among;
 use net_hello::Epoch;
-use plc_epochs::{Kept, Moment, Step, Word};
+use plc_epochs::{Kept, Moment, Word};
+use plc_host_core::{EpochAction, EpochNotice, Question};
 use std::alloc::AllocError;
-
-/// In milliseconds: so often it says again what it asks.
-const ASKING: Moment = 100;
 
 /// In milliseconds: a machine that isn't reached within that isn't told a word.
 const REACHING: u64 = 20;
@@ -31,8 +29,8 @@ impl Host {
         moment: Moment,
         deeds: &mut Vec<HostDeed>,
     ) -> Result<(), AllocError> {
-        if let Step::Begins(epoch) = self.cold_start.look(moment) {
-            deeds.push(HostDeed::Keep(Kept::Begun(epoch)))?;
+        if let EpochAction::Keeps(kept) = self.keeper.look(moment) {
+            deeds.push(HostDeed::Keep(kept))?;
         }
         Ok(())
     }
@@ -43,19 +41,12 @@ impl Host {
         moment: Moment,
         deeds: &mut Vec<HostDeed>,
     ) -> Result<(), AllocError> {
-        let (Some(question), Some(epoch)) = (
-            self.cold_start.question(),
-            self.cold_start.speaks_in(),
-        ) else {
+        let Some(Question { epoch, word }) = self.keeper.take_question(moment) else {
             return Ok(());
         };
-        if !is_past(self.asked, moment, ASKING) {
-            return Ok(());
-        }
-        self.asked = Some(moment);
         for to in 0..self.setup.config.group_size() {
             if to != self.setup.number {
-                self.say(to, epoch, question, deeds)?;
+                self.say(to, epoch, word, deeds)?;
             }
         }
         Ok(())
@@ -87,18 +78,19 @@ impl Host {
         moment: Moment,
         deeds: &mut Vec<HostDeed>,
     ) -> Result<(), AllocError> {
-        if epoch.number == 0 {
-            return Ok(());
-        }
-        let step = self.cold_start.hear(from, &epoch, moment);
-        self.leave_by(step, deeds)
+        let action = self.keeper.hear(from, &epoch, moment);
+        self.leave_by(action, deeds)
     }
 
-    /// Its life ends by some steps. Where an epoch is far above its own, an operator puts it there: here at once.
-    fn leave_by(&mut self, step: Step, deeds: &mut Vec<HostDeed>) -> Result<(), AllocError> {
-        let kept = match step {
-            Step::FarAbove(epoch) => Kept::Entered(epoch),
-            Step::Ends(_) | Step::Hears(_) | Step::WaitsAbove(_) => self.cold_start.kept(),
+    /// Its life ends by some actions. Where an epoch is far above its own, an operator puts it there: here at once.
+    fn leave_by(
+        &mut self,
+        action: EpochAction,
+        deeds: &mut Vec<HostDeed>,
+    ) -> Result<(), AllocError> {
+        let kept = match action {
+            EpochAction::Leaves(_, kept) => kept,
+            EpochAction::Tells(EpochNotice::FarAbove(epoch)) => Kept::Entered(epoch),
             _ => return Ok(()),
         };
         self.phase = Phase::Left;
@@ -119,15 +111,9 @@ impl Host {
         if self.phase != Phase::Serving || !self.setup.is_automatic || self.has_failed {
             return Ok(());
         }
-        match self.cold_start.hear_word(from, &epoch, &word, moment) {
-            Step::Freezes(word) | Step::Confirms(word) | Step::Declines(word) => {
-                self.say(from, epoch, word, deeds)
-            }
-            Step::AsksAgain => {
-                self.asked = None;
-                Ok(())
-            }
-            step => self.leave_by(step, deeds),
+        match self.keeper.hear_word(from, &epoch, &word, moment) {
+            EpochAction::Answers(word) => self.say(from, epoch, word, deeds),
+            action => self.leave_by(action, deeds),
         }
     }
 }

@@ -1,23 +1,22 @@
-//! What the driver of a node does, as a value: when it leads, what it submits, what it inherits, when its port is open.
+//! What the driver of a node does: what `plc_node_core` decides is put into deeds.
 
-ghost use Rattle.std.specs.Prelude.{◌≡◌, IsSome, OnOk, true};
-ghost use Rattle.plc_machine.specs.Driving.{Shows};
+ghost use Rattle.std.specs.Prelude.{◌≡◌, true};
 
 use crate::host::Shown;
-use crate::joints::{begins, goes_to, shorter, view_of};
-use il_model::InImage;
+use crate::joints::down;
 use io_image::{Release, Staging};
 use plc_epochs::Kept;
-use plc_machine::{Course, LastScan, MachineDriver, Pace, client_starts, led_view};
+use plc_machine::{MachineDriver, Pace, client_starts};
+use plc_node_core::{
+    Action, Answered, Ending, LastAction, Node as Deciding, NodeAction, Role, ScanClient,
+    ShownReplica,
+};
 use std::alloc::{AllocError, Global};
 use std::time::Duration;
 use vr_model::{ClientNumber, Config, Message, Sends};
 
-/// In milliseconds, the longest that it waits for what comes next.
-const LONGEST_WAIT: u64 = 5;
-
-/// In milliseconds: after so long without a reply a request is sent again, or after a period if that's shorter.
-const LONGEST_SILENCE: u64 = 1_000;
+/// So many actions of one turn follow each other at most: none is due behind its own end.
+const MOST_ACTIONS: u8 = 8;
 
 /// What a node is made of.
 #[derive(Clone, Copy)]
@@ -58,38 +57,32 @@ pub enum NodeDeed {
 /// The driver of a node, as a value.
 #[derive(Drop)]
 pub struct Node {
-    setup: NodeSetup,
-    driver: MachineDriver,
-    /// When its request was sent last.
-    sent: Duration,
+    deciding: Deciding,
     /// When its scan was submitted that was submitted last.
     submitted: Duration,
-    /// Where it began to lead, the inputs of the last scan: the stage has to have them before the next one.
-    inherited: Option<InImage>,
-    is_open: bool,
-    ended: Option<Ended>,
+    /// What its store is to have, where it leaves its epoch.
+    kept: Option<Kept>,
+    /// Nothing more is done.
+    is_over: bool,
 }
 
-/// Fills the staged inputs with those of the last scan. What was written before is overwritten.
-fn fill<S: Staging>(stage: &mut S, inputs: &InImage) {
-    let _ = stage.sample();
-    let _ = stage.write_bits(0, inputs.cells.bits.as_slice());
-    let _ = stage.write_words(0, inputs.cells.words.as_slice());
-}
-
-/// The last scan that is shown, if one is.
-fn last_of(shown: &Shown) -> Option<LastScan> {
-    match &shown.seen {
-        Some(seen) => Some(seen.last),
-        None => None,
+/// What a node sees of its replica, whose thread serves it.
+fn seen_of(shown: &Shown) -> ShownReplica {
+    ShownReplica {
+        standing: shown.standing,
+        has_failed: shown.has_failed,
+        is_over: false,
+        seen: shown.seen,
     }
 }
 
-/// The inputs of the last scan that is shown, if one is.
-fn inputs_of(shown: &Shown) -> Option<InImage> {
-    match &shown.seen {
-        Some(seen) => Some(seen.inputs),
-        None => None,
+/// What a node sees of its replica, whose thread is at its end.
+fn unserved() -> ShownReplica {
+    ShownReplica {
+        standing: down(),
+        has_failed: false,
+        is_over: true,
+        seen: None,
     }
 }
 
@@ -98,67 +91,61 @@ impl Node {
     pub fn new(setup: NodeSetup) -> Option<Node> {
         let client = ClientNumber::new(setup.number)?;
         let starts = client_starts(setup.starts)?;
+        let driver = MachineDriver::new(&setup.config, client, starts, setup.pace);
+        let scans = ScanClient::new(setup.number, setup.pace.period, driver);
         Some(Node {
-            setup,
-            driver: MachineDriver::new(&setup.config, client, starts, setup.pace),
-            sent: Duration::from_millis(0),
+            deciding: Deciding::new(Role::new(scans)),
             submitted: Duration::from_millis(0),
-            inherited: None,
-            is_open: false,
-            ended: None,
+            kept: None,
+            is_over: false,
         })
     }
 
     /// Whether its port is open.
     pub fn is_open(&self) -> bool {
-        self.is_open
+        self.deciding.role().is_open()
     }
 
     /// The view that it leads, if it leads.
     pub fn led(&self) -> Option<u64> {
-        view_of(self.driver.course())
+        self.deciding.role().led()
     }
 
     /// When it has something to do next, unless something comes before that.
     pub fn next_due(&self, now: Duration) -> Duration {
-        let longest = now.saturating_add(Duration::from_millis(LONGEST_WAIT));
-        match self.driver.course() {
-            Course::Leading(lead) if !self.driver.is_waiting() => shorter(lead.due, longest),
-            _ => longest,
-        }
-    }
-
-    /// It ends so, unless it has ended.
-    fn end(&mut self, ended: Ended, deeds: &mut Vec<NodeDeed>) -> Result<(), AllocError>
-        ensures over { IsSome self.old.ended → (self.new ≡ self.old) × (deeds.new.items ≡ deeds.old.items) }
-    {
-        if self.ended.is_some() {
-            return Ok(());
-        }
-        self.ended = Some(ended);
-        if self.is_open {
-            self.is_open = false;
-            deeds.push(NodeDeed::Close)?;
-        }
-        deeds.push(NodeDeed::End(ended))?;
-        Ok(())
+        self.deciding.role().next_look(now)
     }
 
     /// It's asked to stop.
-    pub fn stop(&mut self, deeds: &mut Vec<NodeDeed>) -> Result<(), AllocError>
-        ensures over { IsSome self.old.ended → (self.new ≡ self.old) × (deeds.new.items ≡ deeds.old.items) }
+    pub fn stop(&mut self, now: Duration, deeds: &mut Vec<NodeDeed>) -> Result<(), AllocError>
+        ensures over { self.old.is_over ≡ true → (self.new ≡ self.old) × (deeds.new.items ≡ deeds.old.items) }
     {
-        self.end(Ended::Stopped, deeds)
+        if self.is_over {
+            return Ok(());
+        }
+        self.deciding.end_by(Ending::Stopped, now);
+        self.finish(now, deeds)
     }
 
-    /// Its replica's thread says that its life ends.
-    pub fn left(&mut self, kept: Kept, deeds: &mut Vec<NodeDeed>) -> Result<(), AllocError>
-        ensures over { IsSome self.old.ended → (self.new ≡ self.old) × (deeds.new.items ≡ deeds.old.items) }
+    /// Its replica's thread says that its life ends, and serves the replica no longer.
+    pub fn left(
+        &mut self,
+        kept: Kept,
+        now: Duration,
+        deeds: &mut Vec<NodeDeed>,
+    ) -> Result<(), AllocError>
+        ensures over { self.old.is_over ≡ true → (self.new ≡ self.old) × (deeds.new.items ≡ deeds.old.items) }
     {
-        self.end(Ended::Leaves(kept), deeds)
+        if self.is_over {
+            return Ok(());
+        }
+        self.kept = Some(kept);
+        self.deciding.end_by(Ending::Leaves, now);
+        self.deciding.look(&unserved(), now);
+        self.finish(now, deeds)
     }
 
-    /// A turn: it looks at what its replica shows, and submits a scan where one is due.
+    /// A turn: it looks at what its replica shows, and does what is due.
     pub fn turn<S: Staging>(
         &mut self,
         alloc: Global,
@@ -167,121 +154,92 @@ impl Node {
         stage: &mut S,
         deeds: &mut Vec<NodeDeed>,
     ) -> Result<(), AllocError>
-        ensures over { IsSome self.old.ended → (self.new ≡ self.old) × (deeds.new.items ≡ deeds.old.items) }
+        ensures over { self.old.is_over ≡ true → (self.new ≡ self.old) × (deeds.new.items ≡ deeds.old.items) }
     {
-        if self.ended.is_some() {
+        if self.is_over {
             return Ok(());
         }
-        if shown.has_failed || !self.follow(shown, now) {
-            return self.end(Ended::Failed, deeds);
+        self.deciding.look(&seen_of(shown), now);
+        for _ in 0..MOST_ACTIONS {
+            match self.deciding.next_action(now) {
+                Some(NodeAction::Does(action)) => self.act(alloc, now, action, stage, deeds)?,
+                _ => return self.finish(now, deeds),
+            }
         }
-        self.act(alloc, now, stage, deeds)
+        Ok(())
     }
 
-    /// What is due is done: its stage gets what it inherits, a scan is submitted, and its port opens or closes.
+    /// Does this, which is due.
     fn act<S: Staging>(
         &mut self,
         alloc: Global,
         now: Duration,
+        action: Action,
         stage: &mut S,
         deeds: &mut Vec<NodeDeed>,
     ) -> Result<(), AllocError> {
-        if let Some(inputs) = self.inherited.take() {
-            // Nothing is shown yet: so the port closes first behind which clients wrote in a view before.
-            self.tend_port(now, deeds)?;
-            fill(stage, &inputs);
+        match action {
+            Action::Fill => self.deciding.fill(stage, now),
+            Action::Submit => {
+                if let Some(sends) = self.deciding.submit(alloc, stage, now) {
+                    self.submitted = now;
+                    deeds.push(NodeDeed::Send(sends))?;
+                }
+            }
+            Action::Again => {
+                if let Some(sends) = self.deciding.again(alloc, now) {
+                    deeds.push(NodeDeed::Send(sends))?;
+                }
+            }
+            Action::Open(view) => {
+                self.deciding.opened();
+                deeds.push(NodeDeed::Open(view))?;
+            }
+            Action::Close => {
+                self.deciding.closed();
+                deeds.push(NodeDeed::Close)?;
+            }
         }
-        self.scan(alloc, now, stage, deeds)?;
-        self.tend_port(now, deeds)
-    }
-
-    /// Follows what its replica shows: false where its client's numbers are used up.
-    fn follow(&mut self, shown: &Shown, now: Duration) -> bool {
-        let leads = led_view(shown.standing, shown.has_failed);
-        let before = self.led();
-        if self.driver.look(leads, last_of(shown), now).is_err() {
-            return false;
-        }
-        if begins(leads, before) {
-            self.inherited = inputs_of(shown);
-        }
-        true
-    }
-
-    /// Submits a scan where one is due, or asks again for the one that waits.
-    fn scan<S: Staging>(
-        &mut self,
-        alloc: Global,
-        now: Duration,
-        stage: &mut S,
-        deeds: &mut Vec<NodeDeed>,
-    ) -> Result<(), AllocError> {
-        if self.driver.is_waiting() {
-            return self.send_again(alloc, now, deeds);
-        }
-        let Some(sends) = self.driver.submit(alloc, stage, now)? else {
-            return Ok(());
-        };
-        self.submitted = now;
-        self.sent = now;
-        let is_near = goes_to(&sends, self.setup.number);
-        deeds.push(NodeDeed::Send(sends))?;
-        if is_near {
-            return Ok(());
-        }
-        self.send_to_all(alloc, deeds)
-    }
-
-    /// Sends the request that waits to every replica.
-    fn send_to_all(&mut self, alloc: Global, deeds: &mut Vec<NodeDeed>) -> Result<(), AllocError> {
-        let again = self.driver.retry(alloc)?;
-        deeds.push(NodeDeed::Send(again))?;
         Ok(())
     }
 
-    /// Sends the request that waits again, where no reply came for a while.
-    fn send_again(
-        &mut self,
-        alloc: Global,
-        now: Duration,
-        deeds: &mut Vec<NodeDeed>,
-    ) -> Result<(), AllocError> {
-        let longest = Duration::from_millis(LONGEST_SILENCE);
-        let silence = shorter(self.setup.pace.period, longest);
-        if now.saturating_sub(self.sent).as_nanos() < silence.as_nanos() {
-            return Ok(());
+    /// Does what is due of one that has ended, until that is done.
+    fn finish(&mut self, now: Duration, deeds: &mut Vec<NodeDeed>) -> Result<(), AllocError> {
+        for _ in 0..MOST_ACTIONS {
+            match self.deciding.next_action(now) {
+                Some(NodeAction::Ends(LastAction::Close)) => {
+                    self.deciding.closed();
+                    deeds.push(NodeDeed::Close)?;
+                }
+                Some(NodeAction::Ends(LastAction::Cut)) => self.deciding.cut(now),
+                Some(NodeAction::Ends(LastAction::End(ending))) => return self.end(ending, deeds),
+                _ => return Ok(()),
+            }
         }
-        self.sent = now;
-        self.send_to_all(alloc, deeds)
+        Ok(())
     }
 
-    /// Opens or closes the port, by whether outputs are shown now.
-    fn tend_port(&mut self, now: Duration, deeds: &mut Vec<NodeDeed>) -> Result<(), AllocError>
-        ensures open { OnOk result (self.new.is_open ≡ true → Shows now self.old.driver) }
-    {
-        match (self.is_open, self.driver.shows(now), self.led()) {
-            (false, true, Some(view)) => {
-                self.is_open = true;
-                deeds.push(NodeDeed::Open(view))?;
-            }
-            (true, false, _) => {
-                self.is_open = false;
-                deeds.push(NodeDeed::Close)?;
-            }
-            _ => {}
-        }
+    /// It's over.
+    fn end(&mut self, ending: Ending, deeds: &mut Vec<NodeDeed>) -> Result<(), AllocError> {
+        self.is_over = true;
+        let ended = match (ending, self.kept) {
+            (Ending::Stopped, _) => Ended::Stopped,
+            (Ending::Leaves, Some(kept)) => Ended::Leaves(kept),
+            _ => Ended::Failed,
+        };
+        deeds.push(NodeDeed::End(ended))?;
         Ok(())
     }
 
     /// Takes a message of its group: where it's the reply that is waited for, what it releases is published. A turn
     /// comes behind it at once.
     pub fn reply(&mut self, message: &Message, deeds: &mut Vec<NodeDeed>) -> Result<(), AllocError>
-        ensures over { IsSome self.old.ended → (self.new ≡ self.old) × (deeds.new.items ≡ deeds.old.items) }
+        ensures over { self.old.is_over ≡ true → (self.new ≡ self.old) × (deeds.new.items ≡ deeds.old.items) }
     {
-        if self.ended.is_some() {
+        if self.is_over {
             return Ok(());
         }
-        if let Some(release) = self.driver.on_reply(message) {
+        if let Answered::Released(release) = self.deciding.reply(message) {
             deeds.push(NodeDeed::Publish(release, self.submitted))?;
         }
         Ok(())

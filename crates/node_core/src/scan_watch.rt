@@ -3,18 +3,11 @@
 ghost use Rattle.std.specs.Prelude.{◌<◌, ◌≤◌, ◌⊎◌, ◌↔◌, IsTrue};
 
 use il_model::{Command, InImage};
-use plc_machine::LastScan;
+use plc_machine::{LastScan, SeenScan};
 use std::alloc::Global;
 use std::time::Duration;
 use vr_model::Request;
 use vr_replica::{Replica, ScanInputs};
-
-/// The last scan of a log: its inputs, its moment, and when it came in.
-#[derive(Clone, Copy, Debug, PartialEq, Eq)]
-pub struct SeenScan {
-    pub last: LastScan,
-    pub inputs: InImage,
-}
 
 /// What is known of the last scan.
 #[derive(Clone, Copy, PartialEq, Eq)]

@@ -1,14 +1,15 @@
 //! How the thread of a replica serves it.
 
 ghost use Rattle.std.specs.Prelude.{◌≡◌, false};
-ghost use Rattle.node_core.specs.Reaching.{is_answer, lets_through};
+ghost use Rattle.plc_host_core.specs.Reaching.{lets_through};
 
 use crate::host::{Host, HostDeed, HostSetup, Phase};
-use crate::joints::{down, has_recovered, is_among, is_past, millis, recovering_in};
-use plc_epochs::{Moment, Step};
+use crate::joints::{down, has_recovered, is_among, is_past, millis};
+use plc_epochs::Moment;
+use plc_host_core::EpochAction;
 use std::alloc::{AllocError, Global};
 use std::time::Duration;
-use vr_model::{Body, Event, Message, Sends, Stored};
+use vr_model::{Event, Message, Sends, Stored};
 use vr_ports::Tick;
 use vr_replica::{Replica, StepFault, ViewStore};
 
@@ -24,13 +25,6 @@ fn send_all(sends: Sends, deeds: &mut Vec<HostDeed>) -> Result<(), AllocError> {
         deeds.push(HostDeed::Send(message))?;
     }
     Ok(())
-}
-
-/// Whether a message is an answer to a RECOVERY.
-fn is_answer(message: &Message) -> bool
-    ensures { result ≡ is_answer message.now }
-{
-    matches!(message.body, Body::RecoveryResponse { .. })
 }
 
 /// The replica of a start that a store counted: the first one is normal, each other one comes up by a restart.
@@ -60,8 +54,8 @@ impl Host {
         self.watch.look(alloc, replica, now);
         let standing = replica.standing();
         self.timer.stand(standing);
-        if self.cold_start.recovers() && has_recovered(standing) {
-            self.cold_start.recovered();
+        if self.keeper.cold_start().recovers() && has_recovered(standing) {
+            self.keeper.recovered();
         }
         match stepped {
             Ok(sends) => send_all(sends, deeds),
@@ -74,13 +68,6 @@ impl Host {
         }
     }
 
-    /// Whether a message reaches its replica: no answer does while that is frozen.
-    fn lets_through(&self, message: &Message) -> bool
-        ensures { result ≡ lets_through self.now.cold_start.phase message.now }
-    {
-        !is_answer(message) || !self.cold_start.recovers() || self.cold_start.takes_answers()
-    }
-
     /// A message came.
     pub(crate) fn take<S: ViewStore>(
         &mut self,
@@ -90,15 +77,13 @@ impl Host {
         store: &mut S,
         deeds: &mut Vec<HostDeed>,
     ) -> Result<(), AllocError>
-        ensures frozen { lets_through self.old.cold_start.phase message ≡ false
+        ensures frozen { lets_through self.old.keeper.cold_start.phase message ≡ false
             → (self.new ≡ self.old) × (deeds.new.items ≡ deeds.old.items) }
     {
-        if self.phase != Phase::Serving || !self.lets_through(&message) {
+        if self.phase != Phase::Serving || !self.keeper.lets_through(&message) {
             return Ok(());
         }
-        if let (Some(from), Some(epoch)) = (recovering_in(&message), self.cold_start.speaks_in()) {
-            let _ = self.cold_start.hear_recovery(from, &epoch, millis(now));
-        }
+        self.keeper.note_recovery(&message, millis(now));
         self.timer.hear(&message);
         self.act(alloc, now, Event::Message(message), store, deeds)
     }
@@ -136,12 +121,12 @@ impl Host {
 
     /// Notes which machines are near, over connections of this epoch.
     fn note_signs(&mut self, near: u8, moment: Moment) {
-        let Some(epoch) = self.cold_start.speaks_in() else {
+        let Some(epoch) = self.keeper.cold_start().speaks_in() else {
             return;
         };
         for other in 0..self.setup.config.group_size() {
             if is_among(near, other) {
-                let _ = self.cold_start.hear_sign(other, &epoch, moment);
+                let _ = self.keeper.hear_sign(other, &epoch, moment);
             }
         }
     }
@@ -155,10 +140,10 @@ impl Host {
         deeds: &mut Vec<HostDeed>,
     ) -> Result<(), AllocError> {
         let moment = millis(now);
-        if !self.cold_start.recovers() || self.has_failed {
+        if !self.keeper.cold_start().recovers() || self.has_failed {
             return Ok(());
         }
-        let Step::Thaws(nonce) = self.cold_start.look(moment) else {
+        let EpochAction::Thaws(nonce) = self.keeper.look(moment) else {
             return self.ask(moment, deeds);
         };
         if let Some(replica) = &mut self.replica {

@@ -121,17 +121,14 @@ impl World {
 
     /// An operator stops a machine, and starts it again.
     fn stop(&mut self, machine: u8) -> Result<(), AllocError> {
-        let alloc = self.alloc;
+        let (alloc, now) = (self.alloc, self.now);
         let Some(it) = self.machines.get_mut(usize::from(machine)) else {
             return Ok(());
         };
         if !it.is_up {
             return Ok(());
         }
-        let mut deeds = Vec::new(alloc);
-        if let Some(node) = &mut it.node {
-            node.stop(&mut deeds)?;
-        }
+        let deeds = it.stop(alloc, now)?;
         let at = self.later(50 * MS, 1_000 * MS);
         self.do_all(machine, deeds)?;
         let is_up = self.at(machine).is_some_and(|it| it.is_up);

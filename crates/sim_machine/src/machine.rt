@@ -295,6 +295,16 @@ impl Machine {
         Ok(deeds)
     }
 
+    /// An operator stops it: what is to be done.
+    pub fn stop(&mut self, alloc: Global, now: u64) -> Result<Vec<NodeDeed>, AllocError> {
+        let local = micros(self.local(now));
+        let mut deeds = Vec::new(alloc);
+        if let Some(node) = &mut self.node {
+            node.stop(local, &mut deeds)?;
+        }
+        Ok(deeds)
+    }
+
     /// Its replica's thread says that its life is to end, and what its store is to have then: what is to be done.
     pub fn leave(
         &mut self,
@@ -303,8 +313,9 @@ impl Machine {
         since: u64,
     ) -> Result<Vec<NodeDeed>, AllocError> {
         let mut deeds = Vec::new(alloc);
+        let local = micros(self.local(since));
         match &mut self.node {
-            Some(node) => node.left(kept, &mut deeds)?,
+            Some(node) => node.left(kept, local, &mut deeds)?,
             None => self.leaving = Some(Leaving { kept, since }),
         }
         Ok(deeds)
