@@ -1,6 +1,7 @@
 //! What the thread of a replica does, as a value: its replica, its timer, what keeps to its epoch, and what it shows.
 
 ghost use Rattle.std.specs.Prelude.{◌≡◌, false};
+ghost use Rattle.std.specs.Global.{Box};
 ghost use Rattle.vr_model.specs.declared.message.Message.{Message};
 ghost use Rattle.plc_host_core.specs.Reaching.{lets_through};
 ghost use Rattle.node_core.specs.declared.host.HostEvent.TheVariants as events;
@@ -38,7 +39,7 @@ pub struct HostSetup {
 /// What comes to the thread of a replica.
 #[derive(Drop)]
 pub enum HostEvent {
-    Message(Message),
+    Message(Box<Message>),
     /// Time has passed; these replicas of other machines are near, and these reached, by bits.
     Tick { near: u8, reached: u8 },
     /// A replica of another machine said hello in this epoch.
@@ -54,7 +55,7 @@ pub enum HostEvent {
 /// What the thread of a replica is to do.
 #[derive(Drop)]
 pub enum HostDeed {
-    Send(Message),
+    Send(Box<Message>),
     /// A word is to be said to a machine in this epoch; it's lost where that isn't reached within so many milliseconds.
     Say {
         to: u8,
@@ -100,7 +101,7 @@ pub struct Host {
     pub(crate) setup: HostSetup,
     pub(crate) keeper: EpochKeeper,
     pub(crate) phase: Phase,
-    pub(crate) replica: Option<Replica>,
+    pub(crate) replica: Option<Box<Replica>>,
     pub(crate) timer: GroupPatience,
     pub(crate) watch: ScanWatch,
     pub(crate) has_failed: bool,
@@ -206,11 +207,12 @@ impl Host {
         deeds: &mut Vec<HostDeed>,
     ) -> Result<(), AllocError>
         ensures over { self.old.phase ≡ Left → (self.new ≡ self.old) × (deeds.new.items ≡ deeds.old.items) }
-        ensures frozen { (message : Message) → event ≡ events.Message message
-            → lets_through self.old.keeper.cold_start.phase message ≡ false
+        ensures frozen { (message : Box Message) → event ≡ events.Message message
+            → lets_through self.old.keeper.cold_start.phase message.value ≡ false
             → (self.new ≡ self.old) × (deeds.new.items ≡ deeds.old.items) }
     {
         if self.phase == Phase::Left {
+            drop(event);
             return Ok(());
         }
         match event {

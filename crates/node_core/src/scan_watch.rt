@@ -106,13 +106,13 @@ impl ScanWatch {
             return;
         }
         self.known = Known::Nothing;
-        if let Ok(snapshot) = replica.snapshot(alloc) {
-            self.known = Known::Checkpoint(commit - 1);
-            let inputs = InImage {
-                cells: snapshot.input,
-            };
-            self.leave(inputs, snapshot.moment, now);
-        }
+        let Ok(snapshot) = replica.snapshot(alloc) else {
+            return;
+        };
+        let (cells, moment) = (snapshot.input, snapshot.moment);
+        drop(snapshot);
+        self.known = Known::Checkpoint(commit - 1);
+        self.leave(InImage { cells }, moment, now);
     }
 
     /// The last scan stands there.

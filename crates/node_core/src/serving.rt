@@ -19,22 +19,30 @@ const POLL: Moment = 50;
 /// So many nonces belong to each start that its store counts.
 const NONCES: u64 = 1 << 32;
 
+/// This is to be sent.
+fn send(alloc: Global, message: Message, deeds: &mut Vec<HostDeed>) -> Result<(), AllocError> {
+    let message = Box::new(alloc, message)?;
+    deeds.push(HostDeed::Send(message))?;
+    Ok(())
+}
+
 /// These are to be sent, in order.
-fn send_all(sends: Sends, deeds: &mut Vec<HostDeed>) -> Result<(), AllocError> {
+fn send_all(alloc: Global, sends: Sends, deeds: &mut Vec<HostDeed>) -> Result<(), AllocError> {
     for message in sends {
-        deeds.push(HostDeed::Send(message))?;
+        send(alloc, message, deeds)?;
     }
     Ok(())
 }
 
 /// The replica of a start that a store counted: the first one is normal, each other one comes up by a restart.
-fn made_by(alloc: Global, setup: &HostSetup, starts: u64) -> Result<Replica, AllocError> {
+fn made_by(alloc: Global, setup: &HostSetup, starts: u64) -> Result<Box<Replica>, AllocError> {
     let image = setup.image.copy(alloc)?;
-    if starts == 1 {
+    let replica = if starts == 1 {
         Replica::new(alloc, setup.config, setup.number, image, setup.budget)
     } else {
         Replica::down(alloc, setup.config, setup.number, image, setup.budget)
-    }
+    };
+    Ok(Box::new(alloc, replica?)?)
 }
 
 impl Host {
@@ -48,6 +56,7 @@ impl Host {
         deeds: &mut Vec<HostDeed>,
     ) -> Result<(), AllocError> {
         let Some(replica) = &mut self.replica else {
+            drop(event);
             return Ok(());
         };
         let stepped = replica.step(alloc, event, store);
@@ -58,7 +67,7 @@ impl Host {
             self.keeper.recovered();
         }
         match stepped {
-            Ok(sends) => send_all(sends, deeds),
+            Ok(sends) => send_all(alloc, sends, deeds),
             Err(StepFault::Store) => {
                 self.has_failed = true;
                 Ok(())
@@ -73,19 +82,21 @@ impl Host {
         &mut self,
         alloc: Global,
         now: Duration,
-        message: Message,
+        message: Box<Message>,
         store: &mut S,
         deeds: &mut Vec<HostDeed>,
     ) -> Result<(), AllocError>
-        ensures frozen { lets_through self.old.keeper.cold_start.phase message ≡ false
+        ensures frozen { lets_through self.old.keeper.cold_start.phase message.value ≡ false
             → (self.new ≡ self.old) × (deeds.new.items ≡ deeds.old.items) }
     {
         if self.phase != Phase::Serving || !self.keeper.lets_through(&message) {
+            drop(message);
             return Ok(());
         }
         self.keeper.note_recovery(&message, millis(now));
         self.timer.hear(&message);
-        self.act(alloc, now, Event::Message(message), store, deeds)
+        let event = Event::Message(Box::into_inner(message));
+        self.act(alloc, now, event, store, deeds)
     }
 
     /// Time has passed, and these are near, by bits.

@@ -108,7 +108,7 @@ impl World {
             from,
             to,
         };
-        let wire = Wire::Console(message);
+        let wire = Wire::Console(Box::new(self.alloc, message)?);
         self.post(at, Segment { route, wire })
     }
 
@@ -130,6 +130,7 @@ impl World {
             return Ok(());
         };
         let owner = it.owner();
+        let message = Box::new(self.alloc, message)?;
         if let Some(epoch) = it.epoch() {
             self.checker.submitted(&epoch, &message, now)?;
         }
@@ -137,7 +138,7 @@ impl World {
     }
 
     /// A message of a machine's replica goes out.
-    pub(crate) fn send(&mut self, machine: u8, message: Message) -> Result<(), AllocError> {
+    pub(crate) fn send(&mut self, machine: u8, message: Box<Message>) -> Result<(), AllocError> {
         match message.to {
             Party::Replica(to) if to != machine => self.send_over(machine, to, message),
             Party::Replica(_) => self.send_near(machine, message),
@@ -152,7 +153,7 @@ impl World {
     }
 
     /// A message goes to another machine, over the connection that is open.
-    fn send_over(&mut self, machine: u8, to: u8, message: Message) -> Result<(), AllocError> {
+    fn send_over(&mut self, machine: u8, to: u8, message: Box<Message>) -> Result<(), AllocError> {
         let Some(it) = self.machines.get_mut(usize::from(machine)) else {
             return Ok(());
         };
@@ -173,7 +174,7 @@ impl World {
     }
 
     /// A message goes to a party of the same machine.
-    fn send_near(&mut self, machine: u8, message: Message) -> Result<(), AllocError> {
+    fn send_near(&mut self, machine: u8, message: Box<Message>) -> Result<(), AllocError> {
         let Some(it) = self.at(machine) else {
             return Ok(());
         };
@@ -182,7 +183,6 @@ impl World {
         if let Party::Replica(_) = message.to {
             return self.hand(at, owner, HostEvent::Message(message));
         }
-        let message = Box::new(self.alloc, message)?;
         self.agenda.put(at, Happening::Driver(owner, message))
     }
 

@@ -11,13 +11,13 @@ pub enum Wire {
     Syn,
     SynAck,
     Hello(Hello),
-    Data(Message),
+    Data(Box<Message>),
     Beat,
     Fin,
     /// Apart from connections.
     Visit { epoch: Epoch, word: Word },
     /// Of an operator to a replica, apart from connections.
-    Console(Message),
+    Console(Box<Message>),
 }
 
 /// From where to where a segment goes, by which connection.
