@@ -67,6 +67,16 @@ impl Tally {
         self.longest_takeover = self.longest_takeover.max(took);
     }
 
+    /// All was well again so long behind the end of all faults.
+    pub fn healed(&mut self, took: u64) {
+        self.longest_heal = self.longest_heal.max(took);
+    }
+
+    /// A machine lost its disk.
+    pub fn lost_disk(&mut self) {
+        self.lost_disks = self.lost_disks.saturating_add(1);
+    }
+
     /// A cold start took so long.
     pub fn began_anew(&mut self, took: u64) {
         self.cold_starts = self.cold_starts.saturating_add(1);

@@ -7,28 +7,45 @@ use vr_model::Message;
 /// What happens.
 #[derive(Drop)]
 pub(crate) enum Happening {
-    /// A segment comes to its machine.
-    Arrive(Box<Segment>),
-    /// A machine has a turn.
-    Turn(Owner),
-    /// Something comes to a replica's thread.
-    Host(Owner, Box<HostEvent>),
-    /// A view is to be saved by now.
-    Saved(Owner, Save),
-    /// Something comes to a driver.
-    Driver(Owner, Box<Message>),
-    /// The first write that waits at a disk is flushed.
-    Flush(Owner),
-    /// A process starts.
-    Boot(u8),
+    /// Something at the machine of this number.
+    At(u8, Event),
     /// Clients write, and read; an operator forces something or takes that back.
     Write,
     Read,
     Operate,
     /// It's looked how far the run is.
     Plan,
-    /// A fault ends.
+    /// A fault between machines ends.
     Ends(Trouble),
+}
+
+/// What happens at a machine.
+#[derive(Drop)]
+pub(crate) enum Event {
+    /// A segment comes.
+    Arrives(Box<Segment>),
+    /// Its process starts.
+    Boots,
+    /// Its disk has room again, or is as quick as before.
+    HasRoom,
+    IsQuick,
+    /// Something for this process, or this life of it.
+    Has(Owner, Task),
+}
+
+/// What a process of a machine has to do.
+#[derive(Drop)]
+pub(crate) enum Task {
+    /// It has a turn.
+    Turn,
+    /// The first write that waits at its disk is flushed.
+    Flush,
+    /// Something comes to its replica's thread.
+    Host(Box<HostEvent>),
+    /// A view is to be saved by now.
+    Saved(Save),
+    /// Something comes to its driver.
+    Driver(Box<Message>),
 }
 
 /// A replica's thread that waits for a save of a view.
@@ -40,13 +57,12 @@ pub(crate) struct Save {
     pub(crate) pause: u64,
 }
 
-/// A fault that ends.
+/// A fault between machines.
 #[derive(Clone, Copy)]
 pub(crate) enum Trouble {
     /// Nothing goes from one machine to another, nor back, if both ways are blocked.
     Blocked { one: u8, other: u8, is_both: bool },
-    Full { machine: u8 },
-    Slow { machine: u8 },
+    /// Segments are lost.
     Loss,
 }
 

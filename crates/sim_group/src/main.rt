@@ -27,14 +27,17 @@
 //! of agendas, disks and verdicts is at their heads.
 #![tactic(auto)]
 
+mod driving;
 mod happening;
+mod hosting;
 mod lives;
+mod net;
 mod plan;
 mod report;
 mod serving;
+mod site;
 mod traffic;
 mod troubles;
-mod turns;
 mod words;
 mod world;
 
@@ -43,11 +46,13 @@ use crate::words::{Said, Words};
 use crate::world::World;
 use il_model::Budget;
 use net_hello::Epoch;
+use net_peers::FIRST_CONSOLE;
 use sim_machine::{Asked, Program, setup_of};
 use sim_time::SECOND;
 use std::alloc::Global;
 use std::process::ExitCode;
 use std::{env, io};
+use vr_model::ClientNumber;
 
 /// Counts its scans and shows what was written.
 const PROGRAM: &[u8] = b"VAR
@@ -65,39 +70,47 @@ ST %QW2
 ";
 
 /// What each group runs.
-fn program(alloc: Global) -> Option<Program> {
-    Some(Program {
+fn program(alloc: Global) -> Option<Box<Program>> {
+    let budget = Budget::new(10_000)?;
+    let program = Program {
         image: il_text::image(alloc, PROGRAM).ok()?,
-        budget: Budget::new(10_000)?,
+        budget,
         epoch: Epoch {
             number: 1,
             image: [7; 32],
         },
-    })
+    };
+    Box::new(alloc, program).ok()
 }
 
-/// The run of a seed, until that virtual time or until something is wrong; none where there is no group so, or memory
-/// runs out.
-fn run(alloc: Global, seed: u64, asked: &Asked, until: u64) -> Option<World> {
+/// The group of a seed; none where no group is so, or memory runs out.
+fn world_of(alloc: Global, seed: u64, asked: &Asked) -> Option<Box<World>> {
     let setup = setup_of(seed, asked)?;
-    let mut world = World::new(alloc, setup, program(alloc)?).ok()??;
-    world.run(until).ok()?;
-    Some(world)
+    let operator = ClientNumber::new(FIRST_CONSOLE)?;
+    World::new(alloc, setup, program(alloc)?, operator).ok()
+}
+
+/// Runs a seed, until that virtual time or until something is wrong: whether all is as the table says. None where there
+/// is no such group, or memory runs out.
+fn run_seed(rt: &HostRuntime, words: &Words, seed: u64) -> io::Result<Option<bool>> {
+    let Some(mut world) = world_of(rt.alloc(), seed, &words.asked) else {
+        return Ok(None);
+    };
+    match world.run(words.seconds.saturating_mul(SECOND)) {
+        Ok(()) => Ok(Some(tell_run(rt, &world.site)?)),
+        Err(_) => Ok(None),
+    }
 }
 
 /// Runs these seeds: whether all is as the table says.
 fn run_seeds(rt: &HostRuntime, words: &Words, first: u64, last: u64) -> io::Result<bool> {
-    let until = words.seconds.saturating_mul(SECOND);
     let mut is_right = true;
     for seed in first..=last {
-        let is_so = match run(rt.alloc(), seed, &words.asked, until) {
-            Some(world) => tell_run(rt, &world)?,
-            None => {
-                println!(rt; "seed {seed}: no run")?;
-                false
-            }
-        };
-        is_right = is_right && is_so;
+        let is_so = run_seed(rt, words, seed)?;
+        if is_so.is_none() {
+            println!(rt; "seed {seed}: no run")?;
+        }
+        is_right = is_right && is_so == Some(true);
     }
     Ok(is_right)
 }

@@ -2,6 +2,7 @@
 //! lose their power; and faults again.
 
 use crate::happening::{Act, Happening};
+use crate::site::Site;
 use crate::world::World;
 use sim_checker::{What, Wrong};
 use sim_time::{MS, SECOND};
@@ -25,7 +26,6 @@ const READ: u64 = 300 * MS;
 impl World {
     /// It's looked how far the run is.
     pub(crate) fn plan(&mut self) -> Result<(), AllocError> {
-        let now = self.now;
         let step = match self.act {
             Act::Faults { until } => self.go_on_failing(until)?,
             Act::Heals { since } => self.go_on_healing(since),
@@ -33,25 +33,26 @@ impl World {
             Act::TakesOver { since, machine } => self.go_on_taking_over(since, machine)?,
             Act::Dark { since } => self.go_on_dark(since),
         };
-        self.agenda.put(now.saturating_add(step), Happening::Plan)
+        let next = self.site.net.after(step);
+        self.site.net.agenda.put(next, Happening::Plan)
     }
 
     /// Faults come until then: how soon it's looked again.
     fn go_on_failing(&mut self, until: u64) -> Result<u64, AllocError> {
-        if self.now >= until {
+        let now = self.site.net.now;
+        if now >= until {
             self.heal()?;
-            self.act = Act::Heals { since: self.now };
+            self.act = Act::Heals { since: now };
         } else {
             self.trouble()?;
         }
-        Ok(self.draws.between(10 * MS, 600 * MS))
+        Ok(self.site.net.draws.between(10 * MS, 600 * MS))
     }
 
     /// Whether each machine is normal, or waits for an epoch, and none is paused.
     fn is_well(&self) -> bool {
         for it in self.machines.iter() {
-            let is_well = it.is_normal() || it.disk.files.waits();
-            if !is_well || it.paused(self.now).is_some() {
+            if !it.is_well(self.site.net.now) {
                 return false;
             }
         }
@@ -63,28 +64,18 @@ impl World {
         self.machines.iter().any(|it| it.disk.files.waits())
     }
 
-    /// The machine that leads, as clients see it.
-    fn leading(&self) -> Option<u8> {
-        for it in self.machines.iter() {
-            if it.is_open(self.now) {
-                return Some(it.number);
-            }
-        }
-        None
-    }
-
     /// No faults come since then: how soon it's looked again.
     fn go_on_healing(&mut self, since: u64) -> u64 {
-        let now = self.now;
+        let now = self.site.net.now;
         let took = now.saturating_sub(since);
         let is_well = self.is_well();
-        if is_well && self.clients.last_read.saturating_add(READ) > now {
-            self.tally.longest_heal = self.tally.longest_heal.max(took);
+        if is_well && self.last_read.saturating_add(READ) > now {
+            self.site.tally.healed(took);
             self.act = Act::Calm {
                 until: now.saturating_add(CALM),
             };
         } else if took > MOST_HEALING {
-            self.checker.note(if is_well {
+            self.site.checker.note(if is_well {
                 Wrong::NoOutputs
             } else {
                 Wrong::NotNormal
@@ -95,7 +86,7 @@ impl World {
 
     /// All is well: how soon it's looked again.
     fn go_on_calm(&mut self, until: u64) -> Result<u64, AllocError> {
-        if self.now >= until && !self.setup.is_calm {
+        if self.site.net.now >= until && !self.site.net.setup.is_calm {
             self.strike()?;
         }
         Ok(20 * MS)
@@ -103,77 +94,91 @@ impl World {
 
     /// Another machine is to take over since then: how soon it's looked again.
     fn go_on_taking_over(&mut self, since: u64, machine: u8) -> Result<u64, AllocError> {
-        let now = self.now;
-        if self.clients.last_read > since {
-            let took = self.clients.last_read.saturating_sub(since);
-            self.tally.took_over(took);
-            let longest = self.setup.latency.saturating_add(self.setup.jitter);
-            if took > MOST_TAKEOVER.saturating_add(longest.saturating_mul(8)) {
-                self.checker.note(Wrong::SlowTakeover);
-            }
-            let at = self.later(0, SECOND);
-            self.boot_at(machine, at)?;
+        if self.last_read > since {
+            self.site.took_over(self.last_read.saturating_sub(since));
+            self.boot_soon(machine)?;
             self.begin_faults();
-        } else if now.saturating_sub(since) > SECOND {
-            self.checker.note(Wrong::SlowTakeover);
+        } else if self.site.net.now.saturating_sub(since) > SECOND {
+            self.site.checker.note(Wrong::SlowTakeover);
         }
         Ok(MS)
     }
 
+    /// A machine starts within a second.
+    fn boot_soon(&mut self, machine: u8) -> Result<(), AllocError> {
+        let at = self.site.net.later(0, SECOND);
+        match self.machines.get_mut(usize::from(machine)) {
+            Some(it) => self.site.net.boot_at(it, at),
+            None => Ok(()),
+        }
+    }
+
     /// All start by then: how soon it's looked again.
     fn go_on_dark(&mut self, since: u64) -> u64 {
-        let now = self.now;
-        if self.clients.last_read > since {
-            let took = self.clients.last_read.saturating_sub(since);
-            self.tally.began_anew(took);
-            if took > MOST_COLD {
-                self.checker.note(Wrong::SlowColdStart);
-            }
+        if self.last_read > since {
+            self.site.began_anew(self.last_read.saturating_sub(since));
             if self.one_waits() {
-                self.act = Act::Heals { since: now };
+                self.act = Act::Heals {
+                    since: self.site.net.now,
+                };
             } else {
                 self.begin_faults();
             }
-        } else if now.saturating_sub(since) > MOST_COLD {
-            self.checker.note(Wrong::SlowColdStart);
+        } else if self.site.net.now.saturating_sub(since) > MOST_COLD {
+            self.site.checker.note(Wrong::SlowColdStart);
         }
         5 * MS
     }
 
     /// From now on faults come, for a while.
     fn begin_faults(&mut self) {
-        let until = self.later(SECOND, 12 * SECOND);
+        let until = self.site.net.later(SECOND, 12 * SECOND);
         self.act = Act::Faults { until };
     }
 
     /// All is well: the one that leads is killed, or all are cut off.
     fn strike(&mut self) -> Result<(), AllocError> {
-        self.tally.failed();
-        self.tell(0, What::Strikes, 0);
+        self.site.tally.failed();
+        self.site.tell(0, What::Strikes, 0);
         self.tell_reached();
-        if self.one_waits() || self.draws.comes(300) {
+        if self.one_waits() || self.site.net.draws.comes(300) {
             return self.go_dark();
         }
-        let Some(machine) = self.leading() else {
-            self.act = Act::Heals { since: self.now };
-            return Ok(());
-        };
-        let is_heard = self.draws.comes(500);
-        self.kill(machine, is_heard)?;
-        self.act = Act::TakesOver {
-            since: self.now,
-            machine,
+        let since = self.site.net.now;
+        self.act = match self.kill_leading()? {
+            Some(machine) => Act::TakesOver { since, machine },
+            None => Act::Heals { since },
         };
         Ok(())
     }
 
+    /// Which machines are reached by each, by bits: told where something is tried.
+    fn tell_reached(&mut self) {
+        for it in self.machines.iter() {
+            let (_, reached) = it.neighbours(self.site.net.now);
+            self.site.tell(it.number, What::Reached, u64::from(reached));
+        }
+    }
+
+    /// The machine that leads, as clients see it, is killed, if one does: its number.
+    fn kill_leading(&mut self) -> Result<Option<u8>, AllocError> {
+        for it in self.machines.iter_mut() {
+            if it.is_open(self.site.net.now) {
+                let is_heard = self.site.net.draws.comes(500);
+                self.site.kill(it, is_heard)?;
+                return Ok(Some(it.number));
+            }
+        }
+        Ok(None)
+    }
+
     /// All lose their power, and maybe one its disk, and start again.
     fn go_dark(&mut self) -> Result<(), AllocError> {
-        self.tell(0, What::Dark, 0);
-        for machine in 0..self.setup.size() {
-            self.kill(machine, false)?;
+        self.site.tell(0, What::Dark, 0);
+        for it in self.machines.iter_mut() {
+            self.site.kill(it, false)?;
         }
-        if !self.one_waits() && self.draws.comes(300) {
+        if !self.one_waits() && self.site.net.draws.comes(300) {
             self.lose_disk();
         }
         let since = self.boot_all()?;
@@ -184,45 +189,52 @@ impl World {
     /// All start again: when the last one does.
     fn boot_all(&mut self) -> Result<u64, AllocError> {
         let mut last = 0;
-        for machine in 0..self.setup.size() {
-            let at = self.later(500 * MS, 900 * MS);
+        for it in self.machines.iter_mut() {
+            let at = self.site.net.later(500 * MS, 900 * MS);
             last = at.max(last);
-            self.boot_at(machine, at)?;
+            self.site.net.boot_at(it, at)?;
         }
         Ok(last)
     }
 
     /// A machine loses its disk, and gets another one, which was formatted to wait.
     fn lose_disk(&mut self) {
-        let machine = self.any();
+        let machine = self.site.net.any();
         if let Some(it) = self.machines.get_mut(usize::from(machine)) {
             it.disk.replace();
         }
-        self.tally.lost_disks = self.tally.lost_disks.saturating_add(1);
-        self.tell(machine, What::DiskLost, 0);
+        self.site.tally.lost_disk();
+        self.site.tell(machine, What::DiskLost, 0);
     }
 
     /// All faults end, and each machine that is down starts.
     fn heal(&mut self) -> Result<(), AllocError> {
-        self.tell(0, What::Heals, 0);
-        self.lanes.heal();
-        self.release()?;
-        for machine in 0..self.setup.size() {
-            self.heal_one(machine)?;
+        self.site.tell(0, What::Heals, 0);
+        self.site.net.lanes.heal();
+        self.site.net.release()?;
+        for it in self.machines.iter_mut() {
+            self.site.net.heal(it)?;
         }
         Ok(())
     }
+}
 
-    /// The faults of a machine end, and it starts if it's down.
-    fn heal_one(&mut self, machine: u8) -> Result<(), AllocError> {
-        let Some(it) = self.machines.get_mut(usize::from(machine)) else {
-            return Ok(());
-        };
-        it.disk.heal();
-        if it.is_up || it.boots_at.is_some() {
-            return Ok(());
+impl Site {
+    /// A takeover took so long.
+    fn took_over(&mut self, took: u64) {
+        self.tally.took_over(took);
+        let setup = self.net.setup;
+        let longest = setup.latency.saturating_add(setup.jitter);
+        if took > MOST_TAKEOVER.saturating_add(longest.saturating_mul(8)) {
+            self.checker.note(Wrong::SlowTakeover);
         }
-        let at = self.after(1);
-        self.boot_at(machine, at)
+    }
+
+    /// A cold start took so long.
+    fn began_anew(&mut self, took: u64) {
+        self.tally.began_anew(took);
+        if took > MOST_COLD {
+            self.checker.note(Wrong::SlowColdStart);
+        }
     }
 }

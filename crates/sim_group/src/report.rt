@@ -1,7 +1,8 @@
 //! What is printed of a run.
 
-use crate::world::World;
-use sim_checker::Tally;
+use crate::site::Site;
+use sim_checker::{Journal, Tally};
+use sim_machine::Setup;
 use sim_time::{MS, SECOND};
 use std::io;
 
@@ -29,10 +30,10 @@ fn tell_tally(rt: &HostRuntime, tally: &Tally) -> io::Result<()> {
     println!(rt; "  {releases} releases, longest gap {gap} ms")
 }
 
-/// Prints what happened last in a run.
-fn tell_lines(rt: &HostRuntime, world: &World) -> io::Result<()> {
-    for line in world.journal.lines.iter() {
-        if line.time.saturating_add(TOLD) > world.now {
+/// Prints what happened last in a run, until now.
+fn tell_lines(rt: &HostRuntime, journal: &Journal, now: u64) -> io::Result<()> {
+    for line in journal.lines.iter() {
+        if line.time.saturating_add(TOLD) > now {
             let (ms, part) = (line.time / MS, line.time % MS);
             let (machine, what, number) = (line.machine, line.what, line.number);
             println!(rt; "  {ms}.{part:03} {machine} {what:?} {number}")?;
@@ -41,23 +42,27 @@ fn tell_lines(rt: &HostRuntime, world: &World) -> io::Result<()> {
     Ok(())
 }
 
-/// Prints a run: whether all is as the table says.
-pub(crate) fn tell_run(rt: &HostRuntime, world: &World) -> io::Result<bool> {
-    let seed = world.setup.seed;
-    let size = world.setup.size();
-    let period = world.setup.period / MS;
-    let (latency, every) = (world.setup.latency, world.setup.every);
-    let seconds = world.now / SECOND;
+/// Prints which group ran how long.
+fn tell_group(rt: &HostRuntime, setup: &Setup, now: u64) -> io::Result<()> {
+    let (seed, size, period) = (setup.seed, setup.size(), setup.period / MS);
+    let (latency, every) = (setup.latency, setup.every);
+    let seconds = now / SECOND;
     println!(rt;
         "seed {seed}: {seconds} s of {size} machines, a scan each {period} ms, latency {latency} us, every {every}"
-    )?;
-    tell_tally(rt, &world.tally)?;
-    let sum = world.journal.sum;
-    match world.checker.wrong {
+    )
+}
+
+/// Prints a run: whether all is as the table says.
+pub(crate) fn tell_run(rt: &HostRuntime, site: &Site) -> io::Result<bool> {
+    let now = site.net.now;
+    tell_group(rt, &site.net.setup, now)?;
+    tell_tally(rt, &site.tally)?;
+    let sum = site.journal.sum;
+    match site.checker.wrong {
         Some(wrong) => {
-            let ms = world.now / MS;
+            let ms = now / MS;
             println!(rt; "  WRONG at {ms} ms: {wrong:?}")?;
-            tell_lines(rt, world)?;
+            tell_lines(rt, &site.journal, now)?;
             Ok(false)
         }
         None => {

@@ -2,9 +2,11 @@
 //! forces outputs and takes that back.
 
 use crate::happening::Happening;
+use crate::site::Site;
 use crate::world::World;
 use il_model::{Command, Slot, Value};
 use io_image::Staging;
+use sim_checker::Point;
 use sim_time::MS;
 use std::alloc::AllocError;
 
@@ -21,25 +23,23 @@ fn words_of(number: u64) -> [i16; 2] {
 impl World {
     /// A client writes a number that it never wrote at each open port.
     pub(crate) fn write(&mut self) -> Result<(), AllocError> {
-        let next = self.later(10 * MS, 60 * MS);
-        self.agenda.put(next, Happening::Write)?;
-        let mut written = self.clients.written;
+        let next = self.site.net.later(10 * MS, 60 * MS);
+        self.site.net.agenda.put(next, Happening::Write)?;
         for it in self.machines.iter_mut() {
-            if it.is_open(self.now) {
-                written = written.saturating_add(1);
-                let _ = it.stage.write_words(0, words_of(written).as_slice());
+            if it.is_open(self.site.net.now) {
+                self.written = self.written.saturating_add(1);
+                let _ = it.stage.write_words(0, words_of(self.written).as_slice());
             }
         }
-        self.clients.written = written;
         Ok(())
     }
 
     /// A client reads at all open ports, one after another.
     pub(crate) fn read(&mut self) -> Result<(), AllocError> {
-        let next = self.later(2 * MS, 8 * MS);
-        self.agenda.put(next, Happening::Read)?;
-        let first = self.any();
-        let size = self.setup.size();
+        let next = self.site.net.later(2 * MS, 8 * MS);
+        self.site.net.agenda.put(next, Happening::Read)?;
+        let first = self.site.net.any();
+        let size = self.site.net.setup.size();
         for behind in 0..size {
             let machine = first.wrapping_add(behind);
             self.read_at(if machine < size {
@@ -51,48 +51,47 @@ impl World {
         Ok(())
     }
 
-    /// A client reads at a machine, if its port is open. A session refuses what isn't fresh.
+    /// A client reads at a machine.
     fn read_at(&mut self, machine: u8) {
-        let now = self.now;
-        let Some(it) = self.at(machine) else {
-            return;
-        };
-        let Some(visible) = it.visible else {
-            return;
-        };
-        let age = now.saturating_sub(visible.at);
-        if !it.is_open(now) || age / MS >= self.setup.fresh / MS {
-            return;
+        if let Some(point) = self.point_at(machine) {
+            self.last_read = self.site.net.now;
+            self.site.tally.read();
+            self.site.checker.read(point);
         }
-        self.clients.last_read = now;
-        self.tally.read();
-        self.checker.read(visible.point);
     }
 
+    /// What a client reads at a machine, if anything.
+    fn point_at(&self, machine: u8) -> Option<Point> {
+        let it = self.machines.get(usize::from(machine))?;
+        it.read(self.site.net.now, self.site.net.setup.fresh)
+    }
+}
+
+impl Site {
     /// An operator forces an output or takes that back, at any machine. What isn't answered is asked again.
     pub(crate) fn operate(&mut self) -> Result<(), AllocError> {
-        let next = self.later(20 * MS, 1_500 * MS);
-        self.agenda.put(next, Happening::Operate)?;
-        if !self.clients.operator.is_waiting() {
+        let next = self.net.later(20 * MS, 1_500 * MS);
+        self.net.agenda.put(next, Happening::Operate)?;
+        if !self.operator.is_waiting() {
             self.order();
         }
-        let sends = self.clients.operator.retry(self.alloc)?;
-        let at = self.any();
+        let sends = self.operator.retry(self.net.alloc)?;
+        let at = self.net.any();
         for message in sends {
-            self.ask(at, message)?;
+            self.net.ask(at, message)?;
         }
         Ok(())
     }
 
     /// The operator's next order.
     fn order(&mut self) {
-        let slot = Slot(u16::try_from(self.draws.below(16)).unwrap_or(0));
-        let operator = &mut self.clients.operator;
-        if self.draws.comes(500) {
-            let _ = operator.submit(Command::Unforce(slot), Command::Unforce(slot));
+        let slot = Slot(u16::try_from(self.net.draws.below(16)).unwrap_or(0));
+        let operator = &mut self.operator;
+        if self.net.draws.comes(500) {
+            drop(operator.submit(Command::Unforce(slot), Command::Unforce(slot)));
             return;
         }
-        let value = Value::Bool(self.draws.comes(500));
-        let _ = operator.submit(Command::Force(slot, value), Command::Force(slot, value));
+        let value = Value::Bool(self.net.draws.comes(500));
+        drop(operator.submit(Command::Force(slot, value), Command::Force(slot, value)));
     }
 }

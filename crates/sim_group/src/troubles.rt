@@ -1,65 +1,120 @@
 //! Faults at random, and how they end.
 
-use crate::happening::{Happening, Trouble};
+use crate::happening::{Event, Happening, Trouble};
+use crate::net::Net;
+use crate::site::Site;
 use crate::world::World;
 use sim_checker::What;
-use sim_machine::{Segment, WRITE};
+use sim_machine::Machine;
 use sim_time::MS;
 use std::alloc::AllocError;
+
+/// Of so many kinds of faults, one cuts off most machines at once.
+const KINDS: u64 = 12;
+
+const CUTS_MOST: u64 = 10;
 
 impl World {
     /// A fault comes.
     pub(crate) fn trouble(&mut self) -> Result<(), AllocError> {
-        self.tally.failed();
-        let machine = self.any();
-        let kind = self.draws.below(12);
-        self.tell(machine, What::Fault, kind);
-        match kind {
-            0 | 1 => self.crash(machine),
-            2 | 3 => {
-                self.pause(machine);
-                Ok(())
+        self.site.tally.failed();
+        let machine = self.site.net.any();
+        let kind = self.site.net.draws.below(KINDS);
+        self.site.tell(machine, What::Fault, kind);
+        if kind == CUTS_MOST {
+            return self.cut_most();
+        }
+        match self.machines.get_mut(usize::from(machine)) {
+            Some(it) => self.site.trouble(it, kind),
+            None => Ok(()),
+        }
+    }
+
+    /// Most machines lose their power, and start again.
+    fn cut_most(&mut self) -> Result<(), AllocError> {
+        for it in self.machines.iter_mut() {
+            if self.site.net.draws.comes(700) {
+                self.site.cut(it)?;
             }
-            4 | 5 => self.block(machine),
-            6 => self.isolate(machine),
-            7 => self.fill_disk(machine),
-            8 => self.slow_disk(machine),
-            9 => self.lose_segments(),
-            10 => self.cut_most(),
-            _ => self.stop(machine),
+        }
+        Ok(())
+    }
+}
+
+impl Site {
+    /// A fault of this kind comes to a machine.
+    fn trouble(&mut self, it: &mut Machine, kind: u64) -> Result<(), AllocError> {
+        match kind {
+            0 | 1 => self.crash(it),
+            11 => self.stop(it),
+            _ => self.net.trouble(it, kind),
         }
     }
 
     /// A process is killed, or its machine loses its power, and starts again.
-    fn crash(&mut self, machine: u8) -> Result<(), AllocError> {
-        let is_heard = self.draws.comes(600);
-        self.kill(machine, is_heard)?;
-        let at = self.later(50 * MS, 2_000 * MS);
-        self.boot_at(machine, at)
+    fn crash(&mut self, it: &mut Machine) -> Result<(), AllocError> {
+        let is_heard = self.net.draws.comes(600);
+        self.kill(it, is_heard)?;
+        let at = self.net.later(50 * MS, 2_000 * MS);
+        self.net.boot_at(it, at)
+    }
+
+    /// A machine loses its power, and starts again.
+    fn cut(&mut self, it: &mut Machine) -> Result<(), AllocError> {
+        self.kill(it, false)?;
+        let at = self.net.later(200 * MS, 2_500 * MS);
+        self.net.boot_at(it, at)
+    }
+
+    /// An operator stops a machine, and starts it again.
+    fn stop(&mut self, it: &mut Machine) -> Result<(), AllocError> {
+        if !it.is_up {
+            return Ok(());
+        }
+        let at = self.net.later(50 * MS, 1_000 * MS);
+        let mut deeds = Vec::new(self.net.alloc);
+        it.stop(self.net.now, &mut deeds)?;
+        self.do_all(it, deeds)?;
+        if it.is_up {
+            return Ok(());
+        }
+        self.net.boot_at(it, at)
+    }
+}
+
+impl Net {
+    /// A fault of this kind comes, with which no process ends.
+    fn trouble(&mut self, it: &mut Machine, kind: u64) -> Result<(), AllocError> {
+        match kind {
+            2 | 3 => {
+                self.pause(it);
+                Ok(())
+            }
+            4 | 5 => self.block(it.number),
+            6 => self.isolate(it.number),
+            7 => self.fill_disk(it),
+            8 => self.slow_disk(it),
+            _ => self.lose_segments(),
+        }
     }
 
     /// A machine stands still for a while, or for longer where it does.
-    fn pause(&mut self, machine: u8) {
+    fn pause(&mut self, it: &mut Machine) {
         let until = self.later(10 * MS, 2_500 * MS);
-        if let Some(it) = self.machines.get_mut(usize::from(machine)) {
-            it.paused_until = it.paused_until.max(until);
-        }
+        it.paused_until = it.paused_until.max(until);
     }
 
     /// Nothing goes from a machine to another one for a while, and maybe nothing back.
     fn block(&mut self, one: u8) -> Result<(), AllocError> {
         let other = self.any();
         let is_both = self.draws.comes(600);
-        self.lanes.block(one, other, true);
-        if is_both {
-            self.lanes.block(other, one, true);
-        }
-        let at = self.later(20 * MS, 2_000 * MS);
         let trouble = Trouble::Blocked {
             one,
             other,
             is_both,
         };
+        self.lanes.block_ways(one, other, is_both, true);
+        let at = self.later(20 * MS, 2_000 * MS);
         self.agenda.put(at, Happening::Ends(trouble))
     }
 
@@ -67,8 +122,7 @@ impl World {
     fn isolate(&mut self, one: u8) -> Result<(), AllocError> {
         let at = self.later(50 * MS, 2_500 * MS);
         for other in 0..self.setup.size() {
-            self.lanes.block(one, other, true);
-            self.lanes.block(other, one, true);
+            self.lanes.block_ways(one, other, true, true);
             let trouble = Trouble::Blocked {
                 one,
                 other,
@@ -80,24 +134,17 @@ impl World {
     }
 
     /// The disk of a machine is full for a while.
-    fn fill_disk(&mut self, machine: u8) -> Result<(), AllocError> {
-        if let Some(it) = self.machines.get_mut(usize::from(machine)) {
-            it.disk.is_full = true;
-        }
+    fn fill_disk(&mut self, it: &mut Machine) -> Result<(), AllocError> {
+        it.disk.is_full = true;
         let at = self.later(50 * MS, 2_000 * MS);
-        self.agenda
-            .put(at, Happening::Ends(Trouble::Full { machine }))
+        self.put(at, it.number, Event::HasRoom)
     }
 
     /// The disk of a machine is slow for a while.
-    fn slow_disk(&mut self, machine: u8) -> Result<(), AllocError> {
-        let latency = self.draws.between(5 * MS, 400 * MS);
-        if let Some(it) = self.machines.get_mut(usize::from(machine)) {
-            it.disk.latency = latency;
-        }
+    fn slow_disk(&mut self, it: &mut Machine) -> Result<(), AllocError> {
+        it.disk.latency = self.draws.between(5 * MS, 400 * MS);
         let at = self.later(500 * MS, 4_000 * MS);
-        self.agenda
-            .put(at, Happening::Ends(Trouble::Slow { machine }))
+        self.put(at, it.number, Event::IsQuick)
     }
 
     /// Segments are lost for a while.
@@ -105,37 +152,6 @@ impl World {
         self.lanes.loss = self.draws.between(5, 100);
         let at = self.later(200 * MS, 3_000 * MS);
         self.agenda.put(at, Happening::Ends(Trouble::Loss))
-    }
-
-    /// Most machines lose their power, and start again.
-    fn cut_most(&mut self) -> Result<(), AllocError> {
-        for machine in 0..self.setup.size() {
-            if self.draws.comes(700) {
-                self.kill(machine, false)?;
-                let at = self.later(200 * MS, 2_500 * MS);
-                self.boot_at(machine, at)?;
-            }
-        }
-        Ok(())
-    }
-
-    /// An operator stops a machine, and starts it again.
-    fn stop(&mut self, machine: u8) -> Result<(), AllocError> {
-        let (alloc, now) = (self.alloc, self.now);
-        let Some(it) = self.machines.get_mut(usize::from(machine)) else {
-            return Ok(());
-        };
-        if !it.is_up {
-            return Ok(());
-        }
-        let deeds = it.stop(alloc, now)?;
-        let at = self.later(50 * MS, 1_000 * MS);
-        self.do_all(machine, deeds)?;
-        let is_up = self.at(machine).is_some_and(|it| it.is_up);
-        if is_up {
-            return Ok(());
-        }
-        self.boot_at(machine, at)
     }
 
     /// A fault ends.
@@ -146,45 +162,23 @@ impl World {
                 other,
                 is_both,
             } => {
-                self.lanes.block(one, other, false);
-                if is_both {
-                    self.lanes.block(other, one, false);
-                }
-                return self.release();
+                self.lanes.block_ways(one, other, is_both, false);
+                self.release()
             }
-            Trouble::Full { machine } => {
-                if let Some(it) = self.machines.get_mut(usize::from(machine)) {
-                    it.disk.is_full = false;
-                }
+            Trouble::Loss => {
+                self.lanes.loss = 0;
+                Ok(())
             }
-            Trouble::Slow { machine } => {
-                if let Some(it) = self.machines.get_mut(usize::from(machine)) {
-                    it.disk.latency = WRITE;
-                }
-            }
-            Trouble::Loss => self.lanes.loss = 0,
         }
-        Ok(())
     }
 
-    /// What was held goes on, where its way is free.
-    pub(crate) fn release(&mut self) -> Result<(), AllocError> {
-        for segment in self.lanes.take_held(self.alloc) {
-            self.let_go(segment)?;
-        }
-        Ok(())
-    }
-
-    /// A segment that was held goes on within a while, or is held again.
-    fn let_go(&mut self, segment: Box<Segment>) -> Result<(), AllocError> {
-        let (from, to) = (segment.route.from, segment.route.to);
-        if self.lanes.is_blocked(from, to) {
-            self.lanes.held.push(segment)?;
+    /// The faults of a machine end, and it starts if it's down.
+    pub(crate) fn heal(&mut self, it: &mut Machine) -> Result<(), AllocError> {
+        it.disk.heal();
+        if it.is_up || it.boots_at.is_some() {
             return Ok(());
         }
-        let wait = self.draws.below(200 * MS);
-        let at = self.after(wait);
-        let arrives = self.lanes.arrives(from, to, at);
-        self.agenda.put(arrives, Happening::Arrive(segment))
+        let at = self.after(1);
+        self.boot_at(it, at)
     }
 }

@@ -49,10 +49,23 @@ impl Lanes {
         self.blocked.get(way(from, to)).copied().unwrap_or(true)
     }
 
+    /// Whether nothing goes between two machines, one way or both.
+    pub fn is_cut(&self, one: u8, other: u8) -> bool {
+        self.is_blocked(one, other) || self.is_blocked(other, one)
+    }
+
     /// Nothing goes this way from now on, or all does.
-    pub fn block(&mut self, from: u8, to: u8, is_blocked: bool) {
+    fn block(&mut self, from: u8, to: u8, is_blocked: bool) {
         if let Some(blocked) = self.blocked.get_mut(way(from, to)) {
             *blocked = is_blocked;
+        }
+    }
+
+    /// The same of both ways between two machines, or of one.
+    pub fn block_ways(&mut self, one: u8, other: u8, is_both: bool, is_blocked: bool) {
+        self.block(one, other, is_blocked);
+        if is_both {
+            self.block(other, one, is_blocked);
         }
     }
 

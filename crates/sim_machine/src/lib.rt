@@ -4,10 +4,10 @@
 //!
 //! ```rust
 //! let disk = Disk::new(alloc, epoch); // formatted for that epoch
-//! let mut machine = Machine::new(alloc, number, disk, clock);
+//! let mut machine = Machine::new(alloc, number, disk, clock, ends); // an end for each machine of its group
 //! machine.boot(now);
 //! let deeds = machine.begin(alloc, host_setup, now)?; // a life of it begins: what it does first
-//! let deeds = machine.step(alloc, now, HostEvent::Hello { from, epoch })?;
+//! let deeds = machine.step(alloc, now, Box::new(alloc, HostEvent::Hello { from, epoch })?)?;
 //! machine.cut(true); // its process ends; what its disk was writing is flushed
 //! ```
 //!
@@ -18,6 +18,7 @@
 #![tactic(auto)]
 
 mod disk;
+mod ends;
 mod lanes;
 mod machine;
 mod net;
@@ -25,6 +26,6 @@ mod setup;
 
 pub use disk::{Disk, FIRST_PAUSE, Files, WRITE, Write};
 pub use lanes::Lanes;
-pub use machine::{Ending, Leaving, Machine, Owner, TURN, Visible};
-pub use net::{End, Route, Segment, Stage, Wire};
+pub use machine::{Ending, Leaving, Machine, Owner};
+pub use net::{End, Route, Segment, Signal, Wire};
 pub use setup::{Asked, Program, Setup, setup_of};

@@ -6,12 +6,13 @@ use crate::setup::Setup;
 use io_image::StageBook;
 use net_hello::{Epoch, Hello, Known};
 use net_peers::Pulse;
-use node_core::{Host, HostDeed, HostEvent, HostSetup, Node, NodeDeed, Shown};
+use node_core::{Host, HostDeed, HostEvent, HostSetup, Node, NodeDeed, NodeSetup, Shown};
 use plc_epochs::Kept;
 use sim_checker::Point;
 use sim_time::{Clock, MS, SECOND, micros, micros_of};
 use std::alloc::{AllocError, Global};
-use vr_model::{Message, Party, Standing, Status};
+use std::time::Duration;
+use vr_model::{Message, Party, Standing, Status, Stored};
 
 /// The longest time between two turns of a machine.
 pub const TURN: u64 = 5 * MS;
@@ -32,10 +33,10 @@ pub struct Owner {
 
 /// What a machine shows clients.
 #[derive(Clone, Copy)]
-pub struct Visible {
-    pub point: Point,
+struct Visible {
+    point: Point,
     /// When its scan was submitted, by the world's clock.
-    pub at: u64,
+    at: u64,
 }
 
 /// A life that is to end.
@@ -73,21 +74,29 @@ pub struct Machine {
     pub paused_until: u64,
     /// Until then its replica's thread waits for its disk.
     pub busy_until: u64,
-    pub host: Option<Host>,
-    pub node: Option<Node>,
+    pub host: Option<Box<Host>>,
+    pub node: Option<Box<Node>>,
     pub stage: StageBook,
-    pub visible: Option<Visible>,
+    visible: Option<Visible>,
     /// What its replica's thread has published.
     shown: Option<Shown>,
     pub leaving: Option<Leaving>,
-    pub ends: Vec<End>,
+    pub(crate) ends: Vec<End>,
     /// So often it was started in its epoch, with this time.
     starts: u64,
 }
 
+/// The same in a box.
+fn in_box<T: Drop>(alloc: Global, it: Option<T>) -> Result<Option<Box<T>>, AllocError> {
+    match it {
+        Some(it) => Ok(Some(Box::new(alloc, it)?)),
+        None => Ok(None),
+    }
+}
+
 impl Machine {
-    /// One that is down.
-    pub fn new(alloc: Global, number: u8, disk: Disk, clock: Clock) -> Machine {
+    /// One that is down, with these ends of connections.
+    pub fn new(alloc: Global, number: u8, disk: Disk, clock: Clock, ends: Vec<End>) -> Machine {
         Machine {
             number,
             disk,
@@ -104,7 +113,7 @@ impl Machine {
             visible: None,
             shown: None,
             leaving: None,
-            ends: Vec::new(alloc),
+            ends,
             starts: 0,
         }
     }
@@ -162,13 +171,38 @@ impl Machine {
         self.is_up && is_open && self.paused(now).is_none()
     }
 
+    /// What a client reads at it, if its port is open: a session refuses what isn't fresh.
+    pub fn read(&self, now: u64, fresh: u64) -> Option<Point> {
+        let visible = self.visible?;
+        let age = now.saturating_sub(visible.at);
+        if self.is_open(now) && age / MS < fresh / MS {
+            Some(visible.point)
+        } else {
+            None
+        }
+    }
+
+    /// Its driver releases something, of a scan that was submitted at that time of its own: clients see it from now on.
+    pub fn release(&mut self, point: Point, submitted: Duration, now: u64) {
+        let age = self.local(now).saturating_sub(micros_of(submitted));
+        self.visible = Some(Visible {
+            point,
+            at: now.saturating_sub(age),
+        });
+    }
+
     /// Whether its replica is normal, and its thread waits for nothing.
-    pub fn is_normal(&self) -> bool {
+    fn is_normal(&self) -> bool {
         let is_normal = match &self.shown {
             Some(shown) => shown.standing.status == Status::Normal,
             None => false,
         };
         is_normal && !self.disk.is_saving()
+    }
+
+    /// Whether its replica is normal, or it waits for an epoch, and it isn't paused.
+    pub fn is_well(&self, now: u64) -> bool {
+        (self.is_normal() || self.disk.files.waits()) && self.paused(now).is_none()
     }
 
     /// The epoch in which its replica's thread takes part.
@@ -177,11 +211,6 @@ impl Machine {
             Some(host) => host.epoch(),
             None => None,
         }
-    }
-
-    /// The end of its connection to another machine.
-    pub fn end_of(&mut self, other: u8) -> Option<&mut End> {
-        self.ends.get_mut(usize::from(other))
     }
 
     /// Its process starts.
@@ -228,6 +257,7 @@ impl Machine {
         self.starts = self.disk.files.next_starts();
         let local = micros(self.local(now));
         let host = Host::new(setup, &self.disk.files.kept, self.starts, local);
+        let host = Box::new(alloc, host)?;
         let mut deeds = Vec::new(alloc);
         host.begin(&mut deeds)?;
         self.host = Some(host);
@@ -239,11 +269,12 @@ impl Machine {
         &mut self,
         alloc: Global,
         now: u64,
-        event: HostEvent,
+        event: Box<HostEvent>,
     ) -> Result<Vec<HostDeed>, AllocError> {
         let local = micros(self.local(now));
         let mut deeds = Vec::new(alloc);
         if let Some(host) = &mut self.host {
+            let event = Box::into_inner(event);
             host.step(alloc, local, event, &mut self.disk, &mut deeds)?;
         }
         if self.disk.is_saving() {
@@ -262,63 +293,87 @@ impl Machine {
         Some(shown.standing)
     }
 
-    /// A turn of its driver: what is to be done, and when the next turn is. None where it has no driver.
+    /// A turn of its driver, if it has one: what is to be done is added to the deeds. When the next turn is.
     pub fn drive(
         &mut self,
         alloc: Global,
         now: u64,
-    ) -> Result<Option<(Vec<NodeDeed>, u64)>, AllocError> {
+        deeds: &mut Vec<NodeDeed>,
+    ) -> Result<u64, AllocError> {
         let local = micros(self.local(now));
         let (Some(node), Some(shown)) = (&mut self.node, self.shown) else {
-            return Ok(None);
+            return Ok(now.saturating_add(TURN));
         };
-        let mut deeds = Vec::new(alloc);
-        node.turn(alloc, local, &shown, &mut self.stage, &mut deeds)?;
+        node.turn(alloc, local, &shown, &mut self.stage, deeds)?;
         let wait = micros_of(node.next_due(local).saturating_sub(local));
-        let next = now.saturating_add(wait.max(SHORTEST).min(TURN));
-        Ok(Some((deeds, next)))
+        Ok(now.saturating_add(wait.max(SHORTEST).min(TURN)))
     }
 
-    /// A message for its driver, which has a turn behind it at once: what is to be done.
+    /// A message for its driver, which has a turn behind it at once: what is to be done is added to the deeds.
     pub fn reply(
         &mut self,
         alloc: Global,
         now: u64,
         message: &Message,
-    ) -> Result<Vec<NodeDeed>, AllocError> {
+        deeds: &mut Vec<NodeDeed>,
+    ) -> Result<(), AllocError> {
         let local = micros(self.local(now));
-        let mut deeds = Vec::new(alloc);
-        if let (Some(node), Some(shown)) = (&mut self.node, self.shown) {
-            node.reply(message, &mut deeds)?;
-            node.turn(alloc, local, &shown, &mut self.stage, &mut deeds)?;
-        }
-        Ok(deeds)
+        let (Some(node), Some(shown)) = (&mut self.node, self.shown) else {
+            return Ok(());
+        };
+        node.reply(message, deeds)?;
+        node.turn(alloc, local, &shown, &mut self.stage, deeds)
     }
 
-    /// An operator stops it: what is to be done.
-    pub fn stop(&mut self, alloc: Global, now: u64) -> Result<Vec<NodeDeed>, AllocError> {
+    /// An operator stops its driver, if it has one: what is to be done is added to the deeds.
+    pub fn stop(&mut self, now: u64, deeds: &mut Vec<NodeDeed>) -> Result<(), AllocError> {
         let local = micros(self.local(now));
-        let mut deeds = Vec::new(alloc);
-        if let Some(node) = &mut self.node {
-            node.stop(local, &mut deeds)?;
+        match &mut self.node {
+            Some(node) => node.stop(local, deeds),
+            None => Ok(()),
         }
-        Ok(deeds)
     }
 
-    /// Its replica's thread says that its life is to end, and what its store is to have then: what is to be done.
+    /// Its replica's thread says that its life is to end, and what its store is to have then: what is to be done is added
+    /// to the deeds.
     pub fn leave(
         &mut self,
-        alloc: Global,
         kept: Kept,
         since: u64,
-    ) -> Result<Vec<NodeDeed>, AllocError> {
-        let mut deeds = Vec::new(alloc);
+        deeds: &mut Vec<NodeDeed>,
+    ) -> Result<(), AllocError> {
         let local = micros(self.local(since));
         match &mut self.node {
-            Some(node) => node.left(kept, local, &mut deeds)?,
-            None => self.leaving = Some(Leaving { kept, since }),
+            Some(node) => node.left(kept, local, deeds),
+            None => {
+                self.leaving = Some(Leaving { kept, since });
+                Ok(())
+            }
         }
-        Ok(deeds)
+    }
+
+    /// Its disk has counted a start, or couldn't: its driver begins, unless its life is to end. What its replica's thread
+    /// is told of its store.
+    pub fn count(
+        &mut self,
+        alloc: Global,
+        setup: &Setup,
+        is_counted: bool,
+    ) -> Result<Option<Stored>, AllocError> {
+        if !is_counted {
+            return Ok(None);
+        }
+        let (view, starts) = (self.disk.files.view, self.disk.files.starts);
+        if self.node.is_none() && self.leaving.is_none() {
+            let node = Node::new(NodeSetup {
+                config: setup.config,
+                number: self.number,
+                starts,
+                pace: setup.pace(),
+            });
+            self.node = in_box(alloc, node)?;
+        }
+        Ok(Some(Stored { view, starts }))
     }
 
     /// How far the end of its life is.

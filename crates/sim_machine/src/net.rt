@@ -1,19 +1,26 @@
 //! Connections between machines: segments, and the ends that they come to.
 
+use crate::lanes::Lanes;
 use net_hello::{Epoch, Hello};
-use net_peers::{Course, Pulse};
+use net_peers::{Course, Duty, Pulse};
 use plc_epochs::Word;
 use vr_model::Message;
+
+/// A segment of a connection that has nothing in it.
+#[derive(Clone, Copy, Debug, PartialEq, Eq)]
+pub enum Signal {
+    Syn,
+    SynAck,
+    Beat,
+    Fin,
+}
 
 /// What goes from one machine to another.
 #[derive(Drop)]
 pub enum Wire {
-    Syn,
-    SynAck,
+    Signal(Signal),
     Hello(Hello),
     Data(Box<Message>),
-    Beat,
-    Fin,
     /// Apart from connections.
     Visit { epoch: Epoch, word: Word },
     /// Of an operator to a replica, apart from connections.
@@ -37,6 +44,15 @@ pub struct Segment {
 }
 
 impl Route {
+    /// Apart from connections.
+    pub fn apart(from: u8, to: u8) -> Route {
+        Route {
+            connection: 0,
+            from,
+            to,
+        }
+    }
+
     /// The way back.
     pub fn back(self) -> Route {
         Route {
@@ -49,7 +65,7 @@ impl Route {
 
 /// How far an end is.
 #[derive(Clone, Copy, Debug, PartialEq, Eq)]
-pub enum Stage {
+pub(crate) enum Stage {
     Away,
     Dialling,
     Greeting,
@@ -59,13 +75,13 @@ pub enum Stage {
 /// One end of the connection to another machine.
 #[derive(Clone, Copy)]
 pub struct End {
-    pub course: Course,
-    pub stage: Stage,
-    pub connection: u64,
+    pub(crate) course: Course,
+    pub(crate) stage: Stage,
+    pub(crate) connection: u64,
     /// Something came behind the hello.
     has_joined: bool,
     /// The most starts that the other one told.
-    pub starts: u64,
+    pub(crate) starts: u64,
 }
 
 impl End {
@@ -80,31 +96,74 @@ impl End {
         }
     }
 
-    /// Whether it's open, and in this connection.
-    pub fn is_in(&self, connection: u64) -> bool {
-        self.connection == connection && self.stage == Stage::Open
-    }
-
     /// Whether the other machine is near.
-    pub fn is_near(&self, moment: u64) -> bool {
+    pub(crate) fn is_near(&self, moment: u64) -> bool {
         self.stage == Stage::Open && self.has_joined && self.course.is_near(moment)
     }
 
+    /// What is due at it is done, and gives what goes over its connection, if anything. One of the two machines dials.
+    pub(crate) fn tend(&mut self, dials: bool, moment: u64, lanes: &mut Lanes) -> Option<Signal> {
+        match self.course.duty(moment) {
+            Duty::Dial if dials => {
+                self.dials(lanes.connect(), moment);
+                Some(Signal::Syn)
+            }
+            Duty::GiveUp => {
+                self.failed(moment);
+                None
+            }
+            Duty::End => {
+                self.closed(moment);
+                Some(Signal::Fin)
+            }
+            Duty::Beat => {
+                self.course.sent(moment);
+                Some(Signal::Beat)
+            }
+            _ => None,
+        }
+    }
+
     /// It dials, by this connection.
-    pub fn dials(&mut self, connection: u64, moment: u64) {
+    fn dials(&mut self, connection: u64, moment: u64) {
         self.course.dialled(moment);
         self.stage = Stage::Dialling;
         self.connection = connection;
     }
 
-    /// Something came over its connection.
-    pub fn heard(&mut self, moment: u64) {
-        self.course.heard(moment);
-        self.has_joined = true;
+    /// Who it dialled is there: whether it says hello now, which it does where this is the connection that it dialled.
+    pub(crate) fn greets(&mut self, connection: u64) -> bool {
+        let greets = self.connection == connection && self.stage == Stage::Dialling;
+        if greets {
+            self.stage = Stage::Greeting;
+        }
+        greets
+    }
+
+    /// Whether a hello of this connection is waited for, at the end that dialled.
+    pub(crate) fn waits_for(&self, connection: u64) -> bool {
+        self.connection == connection && self.stage == Stage::Greeting
+    }
+
+    /// Something came over a connection: whether it's this one, and open.
+    pub(crate) fn hears(&mut self, connection: u64, moment: u64) -> bool {
+        let is_in = self.connection == connection && self.stage == Stage::Open;
+        if is_in {
+            self.course.heard(moment);
+            self.has_joined = true;
+        }
+        is_in
+    }
+
+    /// The other end of a connection was closed.
+    pub(crate) fn hears_end(&mut self, connection: u64, moment: u64) {
+        if self.connection == connection && self.stage != Stage::Away {
+            self.closed(moment);
+        }
     }
 
     /// A hello of this connection was accepted, which told so many starts.
-    pub fn opened(&mut self, connection: u64, starts: u64, moment: u64) {
+    pub(crate) fn opened(&mut self, connection: u64, starts: u64, moment: u64) {
         self.connection = connection;
         self.stage = Stage::Open;
         self.has_joined = false;
@@ -113,13 +172,13 @@ impl End {
     }
 
     /// A dial or a greeting came to nothing.
-    pub fn failed(&mut self, moment: u64) {
+    pub(crate) fn failed(&mut self, moment: u64) {
         self.stage = Stage::Away;
         self.course.failed(moment);
     }
 
     /// Its connection is over.
-    pub fn closed(&mut self, moment: u64) {
+    fn closed(&mut self, moment: u64) {
         self.stage = Stage::Away;
         self.has_joined = false;
         self.course.closed(moment);
