@@ -31,6 +31,7 @@ impl Site {
     /// A process of a machine does this, unless it's over.
     fn perform(&mut self, it: &mut Machine, owner: Owner, task: Task) -> Result<(), AllocError> {
         if !it.is_process(owner) {
+            drop(task);
             return Ok(());
         }
         match task {
@@ -142,6 +143,7 @@ impl Site {
 
     /// A driver submits this to its machine's own replica.
     fn submit_one(&mut self, it: &Machine, message: Message) -> Result<(), AllocError> {
+        let message = Box::new(self.net.alloc, message)?;
         if let Some(epoch) = it.epoch() {
             self.checker.submitted(&epoch, &message, self.net.now)?;
         }

@@ -149,7 +149,7 @@ impl Site {
     }
 
     /// A message of a machine's replica goes out.
-    fn send(&mut self, it: &mut Machine, message: Message) -> Result<(), AllocError> {
+    fn send(&mut self, it: &mut Machine, message: Box<Message>) -> Result<(), AllocError> {
         match message.to {
             Party::Replica(to) if to != it.number => self.net.send(it, to, message),
             Party::Replica(_) => self.net.send_to_host(it.owner(), message),

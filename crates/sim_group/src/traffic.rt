@@ -39,9 +39,8 @@ impl Net {
         &mut self,
         it: &mut Machine,
         to: u8,
-        message: Message,
+        message: Box<Message>,
     ) -> Result<(), AllocError> {
-        let message = Box::new(self.alloc, message)?;
         match it.sends(to, self.now) {
             Some(route) => self.transmit(route, Wire::Data(message)),
             None => Ok(()),
@@ -52,7 +51,7 @@ impl Net {
     pub(crate) fn send_to_host(
         &mut self,
         owner: Owner,
-        message: Message,
+        message: Box<Message>,
     ) -> Result<(), AllocError> {
         let at = self.after(NEAR);
         self.hand(at, owner, HostEvent::Message(message))
@@ -62,9 +61,8 @@ impl Net {
     pub(crate) fn send_to_driver(
         &mut self,
         owner: Owner,
-        message: Message,
+        message: Box<Message>,
     ) -> Result<(), AllocError> {
-        let message = Box::new(self.alloc, message)?;
         let at = self.after(NEAR);
         self.give(at, owner, Task::Driver(message))
     }
@@ -97,7 +95,6 @@ impl Net {
                 if !it.hears(route, self.now) {
                     return Ok(());
                 }
-                let message = Box::into_inner(message);
                 self.hand(self.now, it.owner(), HostEvent::Message(message))
             }
             Wire::Visit { epoch, word } => {
@@ -105,7 +102,6 @@ impl Net {
                 self.hand(self.now, it.owner(), HostEvent::Visit { from, epoch, word })
             }
             Wire::Console(message) => {
-                let message = Box::into_inner(message);
                 self.hand(self.now, it.owner(), HostEvent::Message(message))
             }
         }

@@ -132,7 +132,10 @@ impl World {
     fn happen_at(&mut self, machine: u8, event: Event) -> Result<(), AllocError> {
         match self.machines.get_mut(usize::from(machine)) {
             Some(it) => self.site.happen(it, event),
-            None => Ok(()),
+            None => {
+                drop(event);
+                Ok(())
+            }
         }
     }
 }
