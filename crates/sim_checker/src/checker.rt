@@ -68,24 +68,30 @@ fn first_of(before: Option<Wrong>, wrong: Option<Wrong>) -> Option<Wrong>
     }
 }
 
+/// Of so many machines nothing was seen.
+fn unwatched(alloc: Global, size: u8) -> Result<Vec<Watched>, AllocError> {
+    let mut watched = Vec::new(alloc);
+    for _ in 0..size {
+        watched.push(Watched {
+            seen: 0,
+            shadows: Vec::new(alloc),
+        })?;
+    }
+    Ok(watched)
+}
+
 impl Checker {
     /// Of so many machines that run this program.
     pub fn new(
         alloc: Global,
-        image: Image,
+        image: &Image,
         budget: Budget,
         size: u8,
     ) -> Result<Checker, AllocError> {
-        let mut watched = Vec::new(alloc);
-        for _ in 0..size {
-            watched.push(Watched {
-                seen: 0,
-                shadows: Vec::new(alloc),
-            })?;
-        }
+        let watched = unwatched(alloc, size)?;
         Ok(Checker {
             alloc,
-            image,
+            image: image.copy(alloc)?,
             budget,
             histories: Vec::new(alloc),
             watched,

@@ -27,8 +27,7 @@ impl Site {
         program: Box<Program>,
         operator: ClientNumber,
     ) -> Result<Site, AllocError> {
-        let image = program.image.copy(alloc)?;
-        let checker = Checker::new(alloc, image, program.budget, setup.size())?;
+        let checker = Checker::new(alloc, &program.image, program.budget, setup.size())?;
         Ok(Site {
             net: Net::new(alloc, setup),
             program,
