@@ -59,6 +59,7 @@ abbrev pub status_of : Fault → ℕ
 status_of (faults.Read number line column) = 1
 status_of (faults.Declaration number line column) = 1
 status_of (faults.Assembly number instruction) = 1
+status_of (faults.Type number line column) = 1
 status_of (faults.Load number) = 1
 status_of (faults.LoadAt number position) = 1
 status_of faults.Commands = 1
@@ -92,6 +93,7 @@ abbrev pub fault_line : Fault → List ℕ
 fault_line (faults.Read number line column) = placed_text (codes "plc: read ") number line column
 fault_line (faults.Declaration number line column) = placed_text (codes "plc: decl ") number line column
 fault_line (faults.Assembly number instruction) = pair_text (codes "plc: asm ") number (codes " at ") instruction
+fault_line (faults.Type number line column) = placed_text (codes "plc: type ") number line column
 fault_line (faults.Load number) = numbered (codes "plc: load ") number ++ codes "\n"
 fault_line (faults.LoadAt number position) = pair_text (codes "plc: load ") number (codes " at ") position
 fault_line faults.Commands = codes "plc: commands\n"

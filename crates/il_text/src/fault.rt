@@ -29,6 +29,12 @@ pub enum Fault {
         number: u8,
         instruction: usize,
     },
+    /// A unit doesn't fit the types: the line of the text with the instruction that doesn't.
+    Type {
+        number: u8,
+        line: usize,
+        column: usize,
+    },
     /// The bytes are no image.
     Load {
         number: u8,

@@ -1,18 +1,22 @@
 //! The image of a text: reader, names, assembler and loader, one after the other.
 
-ghost use Rattle.std.specs.Prelude.{◌≡◌, IfOk, IfErr};
+ghost use Rattle.std.specs.Prelude.{◌≡◌, true, IfOk, IfErr};
+ghost use Rattle.il_model.specs.Program.{Program as ProgramText};
 ghost use Rattle.il_model.specs.Declarable.{IsDeclared};
 ghost use Rattle.il_model.specs.Settled.{IsTypedProgramOf};
 ghost use Rattle.il_assembler.specs.Assembled.{IsSpelled};
+ghost use Rattle.il_units.specs.Spelling.{has_units};
 ghost use Rattle.il_text.specs.Meaning.{IsProgramOf, IsTypedProgramOfText, IsImageOfText, IsProgramFault};
 ghost use Rattle.il_text.specs.Meaning.{IsUntyped, IsTextFault, OrMemory};
 
 use crate::fault::Fault;
+use crate::units::unit_program;
 use il_assembler::assemble;
 use il_declarations::resolve;
 use il_loader::{Image, LoadError, load};
 use il_model::Program;
 use il_reader::read;
+use il_units::has_units;
 use std::alloc::Global;
 
 /// The image that the assembler wrote: the loader takes it back, unless memory runs out.
@@ -43,8 +47,13 @@ fn image_of(alloc: Global, program: &Program) -> Result<Image, Fault>
 fn program(alloc: Global, text: &[u8]) -> Result<Program, Fault>
     ensures declared { IfOk result (λ p. IsDeclared p) }
     ensures found { IfOk result (λ p. IsProgramOf text.now p) }
+    // A text of units has no program but one that fits the types.
+    ensures typed { IfOk result (λ p. has_units text.now ≡ true → (typed : ProgramText) × IsTypedProgramOf p typed) }
     ensures refused { IfErr result (OrMemory (IsProgramFault text.now)) }
 {
+    if has_units(text) {
+        return unit_program(alloc, text);
+    }
     let source = read(alloc, text)?;
     Ok(resolve(alloc, source)?)
 }

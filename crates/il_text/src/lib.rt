@@ -12,9 +12,9 @@
 //! ```
 //!
 //! Proved: `image` gives the image of the typed program that the text says, or the text's first fault in the first
-//! layer that refuses it. Each text has one typed program or one fault, and never both (`a_text_means_one_thing`). A
-//! fault is told by its line and its status, and an answer by its line: all of it goes out, or a device is told only
-//! where the writer failed.
+//! layer that refuses it; a text of units says what the expansion of its program says. Each text has one typed program
+//! or one fault, and never both (`a_text_means_one_thing`). A fault is told by its line and its status, and an answer
+//! by its line: all of it goes out, or a device is told only where the writer failed.
 //!
 //! Tests (nothing rests on them alone): the rows of `tests_rows` have what texts and answers print.
 #![tactic(auto)]
@@ -25,6 +25,7 @@ mod layers;
 mod line;
 mod one_meaning;
 mod telling;
+mod units;
 
 pub use fault::Fault;
 pub use imaging::{image, image_bytes};

@@ -77,6 +77,11 @@ fn put_fault<E: CountedWrite>(fault: Fault, err: &mut E) -> Result<(), DeviceFau
             number,
             instruction,
         } => put_pair(err, b"plc: asm ", usize::from(number), b" at ", instruction),
+        Fault::Type {
+            number,
+            line,
+            column,
+        } => put_placed(err, b"plc: type ", number, line, column),
         Fault::Load { number } => {
             put_numbered(err, b"plc: load ", usize::from(number))?;
             put(err, b"\n")

@@ -59,9 +59,19 @@ pub no_commands : (file : List ℕ) (json : JsonFault) (fault : Fault) → fault
 no_commands file Shape fault is none one = (is, none refl)
 no_commands file Memory fault is none one = no_input fault (inr is) one
 
+-- of the faults of a file of commands only want of memory is none of input
+pub only_memory : (json : JsonFault) (fault : Fault) → fault ≡ fault_of json → status_of fault ≡ 2 → fault ≡ faults.Memory
+only_memory Shape fault is two = let one : status_of fault ≡ 1 = ap status_of is in absurd (omega (arith, one, two))
+only_memory Memory fault is two = is
+
 pub of_run : (text file : List ℕ) (e : Fault) → IsTextFault text e ⊎ ((e ≡ faults.Commands) × HasNoCommands file) × IsGoodText text → IsFaultOfRun text file e
 of_run text file e (inl told) = inl told
 of_run text file e (inr none) = inr (none.0.0, none.0.1, none.1)
+
+-- a fault of the text is told before those of the events
+pub of_its_text : (text : List ℕ) (f budget : ℕ) (named : List NamedEvent) (e : Fault) → OrMemory (IsTextFault text) e → OrMemory (IsToldOf text f budget named) e
+of_its_text text f budget named e (inl told) = inl (inl told)
+of_its_text text f budget named e (inr memory) = inr memory
 
 -- the events that the bytes of a file have are refused
 pub of_events : (text : List ℕ) (f budget : ℕ) (file : List ℕ) (named : List NamedEvent) → HasSchedule file named → (e : Fault) → IsToldOf text f budget named e → IsFaultOfSchedule text f budget file e
@@ -93,6 +103,12 @@ is_memory : (F : Fault → Type 0) → ((e : Fault) → F e → status_of e ≡ 
 is_memory F input e (inl told) two = absurd (omega (arith, input e told, two))
 is_memory F input e (inr memory) two = memory
 
+-- of what is told first at a status of 2, where the other fault is then want of memory
+is_want : (text : List ℕ) (fault first : Fault) → (status_of fault ≡ 2 → fault ≡ faults.Memory) → ((e : Fault) → IsTextFault text e → status_of e ≡ 1) → IsFirstFault text fault first → status_of first ≡ 2 → first ≡ faults.Memory
+is_want text fault first other input (inl (inl told)) two = absurd (omega (arith, input first told, two))
+is_want text fault first other input (inl (inr same)) two = same.0 ∙ other (ap status_of (sym same.0) ∙ two)
+is_want text fault first other input (inr memory) two = memory
+
 module _ {W : Type 0} (w : CountedWriter W) (old new : W) where
   told_as : (e f : Fault) → e ≡ f → WentOut w (fault_line e) old new → WentOut w (fault_line f) old new
   told_as e f is line = subst (λ (x : Fault). WentOut w (fault_line x) old new) is line
@@ -114,6 +130,12 @@ module _ {W : Type 0} (w : CountedWriter W) (old new : W) where
   ]
   stops_late F A B before after (Err e) status input two (inr h) ends =
       inr (inr h.1, told_as e faults.Memory (is_memory F input e h.0 (sym ends.0 ∙ two)) ends.1)
+
+  -- at a status of 2 memory ran out before anything was written
+  pub stops_first : (text : List ℕ) (A B : Type 0) (fault first : Fault) (status : ℕ) → (status_of fault ≡ 2 → fault ≡ faults.Memory) → ((e : Fault) → IsTextFault text e → status_of e ≡ 1)
+      → IsFirstFault text fault first → status ≡ status_of first → WentOut w (fault_line first) old new → B → status ≡ 2 → StopsShort w A B old new
+  stops_first text A B fault first status other input told answered line nothing two =
+      inr (nothing, told_as first faults.Memory (is_want text fault first other input told (sym answered ∙ two)) line)
 
 -- what holds where it is done, holds of what is done
 pub where_ok : (r : Result (Unit {0}) Fault) (P : Type 0) → IsOk r → OnOk r P → P

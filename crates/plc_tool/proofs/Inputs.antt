@@ -7,11 +7,10 @@ use Rattle.il_text.specs.declared.fault.Fault.{Fault}
 use Rattle.il_text.specs.Meaning.{IsTextFault, IsImageFault}
 use Rattle.plc_tool.specs.Simulated.{IsToldOf}
 use Rattle.il_text.specs.Telling.{status_of, of_bytes}
+use Rattle.il_text.proofs.Statuses as statuses
 
 pub of_text : (text : List ℕ) (told : Fault) → IsTextFault text told → status_of told ≡ 1
-of_text text told (inl (inl read)) = ap status_of read.is
-of_text text told (inl (inr declared)) = ap status_of declared.is
-of_text text told (inr typed) = ap status_of typed.untyped.is
+of_text text told is = statuses.of_text text told is
 
 load_input : (f : LoadFault) → status_of (of_bytes f) ≡ 1
 load_input Truncated = refl

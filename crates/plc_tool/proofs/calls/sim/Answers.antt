@@ -1,9 +1,10 @@
-use Rattle.std.proofs.Common.{◌≡◌, inr, refl}
+use Rattle.std.proofs.Common.{◌≡◌, inr, refl, arith}
 use Rattle.plc_json.specs.Events.{HasSchedule, HasNoSchedule}
 use Rattle.il_text.specs.declared.fault.Fault.{Fault}
 use Rattle.il_text.specs.declared.fault.Fault.TheVariants as faults
 use Rattle.plc_tool.specs.Simulated.{IsToldOf, IsFaultOfSchedule}
-use Rattle.plc_tool.proofs.Endings.{wider, told_at_1, refused, first_told, of_events, no_schedule, no_memory}
+use Rattle.plc_tool.proofs.Endings.{wider, told_at_1, refused, first_told, of_events, no_schedule, no_memory, stops_first}
+use Rattle.plc_tool.proofs.Inputs.{of_text}
 use Rattle.plc_tool.proofs.calls.sim.Goals as goal
 
 pub returns-in-Ok-clause-told : goal.returns-in-Ok-clause-told
@@ -48,3 +49,13 @@ pub returns-in-Err-Memory-clause-refused : goal.returns-in-Err-Memory-clause-ref
 returns-in-Err-Memory-clause-refused g c = λ one.
     refused (IsFaultOfSchedule c.args.source.now c.args.group.now.config.f c.args.group.now.budget.instructions c.args.schedule.now)
     (told_at_1 g.E.CountedWrite _ _ _ _ (returns-in-Err-Memory-clause-told g c) one)
+
+pub returns-in-Err-Shape-clause-cut : goal.returns-in-Err-Shape-clause-cut
+returns-in-Err-Shape-clause-cut g c = λ two.
+    let t = c.sim_without_schedule.ensures.told in
+    stops_first g.E.CountedWrite _ _ c.args.source.now _ _ faults.Schedule t.0 _ (λ s. absurd (omega (arith, s))) (of_text c.args.source.now) t.1 t.2 t.3 (inr refl) two
+
+pub returns-in-Err-Memory-clause-cut : goal.returns-in-Err-Memory-clause-cut
+returns-in-Err-Memory-clause-cut g c = λ two.
+    let t = c.sim_without_schedule-in-Err-Memory.ensures.told in
+    stops_first g.E.CountedWrite _ _ c.args.source.now _ _ faults.Memory t.0 _ (λ s. refl) (of_text c.args.source.now) t.1 t.2 t.3 (inr refl) two

@@ -1,0 +1,9 @@
+pub mod Grammar
+pub mod Joined
+pub mod Checks
+pub mod Said
+pub mod FirstFaults
+pub mod TextFaults
+pub mod Inputs
+pub mod Labels
+pub mod Tests

@@ -1,0 +1,8 @@
+use Rattle.std.proofs.Common.{◌≡◌, ◌++◌, [], suc, map, take, drop, length}
+use Rattle.std.specs.List.{flat_map}
+use Rattle.il_reader.specs.Grammar.{argument}
+use Rattle.il_units.specs.Calls.{input_of}
+use Rattle.il_units.proofs.calls.push_inputs.Given as goal
+
+abbrev pub invariant-loop-a : goal.invariant-loop-a
+invariant-loop-a l = l.lines.items ≡ l.fn.lines.items ++ flat_map (input_of l.scope.members.now l.block l.front) (map argument (take l.a-index l.args))

@@ -1,0 +1,12 @@
+pub mod Units
+pub mod Spelling
+pub mod Walk
+pub mod Reading
+pub mod Words
+pub mod Members
+pub mod Flats
+pub mod Calls
+pub mod Choices
+pub mod Expansion
+pub mod Misuse
+pub mod FirstFault
