@@ -140,6 +140,7 @@ uninstall:
 
 test:
 	tools/example-rows --check
+	tools/frame-rows --check
 	tools/crates-table
 	tools/audit-lines --check
 	tools/timeline --check

@@ -156,6 +156,66 @@ def hellos_are_refused(plc, work):
         return True
 
 
+@patiently
+def hellos_are_spelled(plc, work):
+    """A machine's hello has these bytes: its group, its epoch with the image, its replica, its starts, `fresh`, its
+    store, and what it knows of who said hello to it: nothing at first, and then the store and the starts that it saw.
+    Clients are no members of a group; one above the last, and a party of another kind, get no answer."""
+    with Patient(plc, work) as group:
+        group.start(0, 2)
+        right = group.says(0, 'driving view 0')
+        real, own = hello_of(group, 1, 5), hello_of(group, 0, 1)
+        first = Peer(group, 0, real.spelled())
+        heard = first.hear()
+        own = own._replace(starts=struct.unpack('>Q', heard[82:90])[0])
+        right = right and own.starts > 0 and heard == own.spelled()
+        first.stay()
+        right = right and group.says(0, 'machine 1 joined')
+        known = own._replace(known_store=real.store, known_starts=real.starts).spelled()
+        rows = [(real._replace(fresh=1).spelled(), known), (party(real, 1, 0), own.spelled()),
+                (party(real, 1, 15), own.spelled()), (party(real, 1, 16), b''), (party(real, 2, 1), b''),
+                (b'PLC-VS' + real.spelled()[6:], b'')]
+        for sent, answer in rows:
+            peer = Peer(group, 0, sent)
+            got = peer.hear()
+            if got != answer or not peer.is_let_go():
+                print('  ', sent.hex(), answer.hex(), got.hex(), sep='\n   ')
+                right = False
+        first.close()
+        return right
+
+
+def party(hello, kind, number):
+    """A hello of a party of this kind and number."""
+    spelled = hello.spelled()
+    return spelled[:80] + bytes([kind, number]) + spelled[82:]
+
+
+def question():
+    """What a replica asks that recovers, with a number that nobody else has: the frame, and the number."""
+    nonce = os.urandom(8)
+    return b'\0\0\0\x13' + bytes([9, 1, 0]) + nonce + bytes(8), nonce
+
+
+def record(piece):
+    return struct.pack('>H', len(piece)) + piece
+
+
+def a_message_comes_in_whatever_records(plc, work):
+    """In two of them, with beats before, between and behind them, wherever it's cut; and in one for each byte."""
+    with Patient(plc, work) as group:
+        group.start(0, 2)
+        right, hello = group.says(0, 'driving view 0'), hello_of(group, 1, 5).spelled()
+        for cut in range(23):
+            asked, nonce = question()
+            pieces = [asked[:cut], asked[cut:]] if cut else [asked[place:place + 1] for place in range(len(asked))]
+            sent = hello + b'\0\0' + b'\0\0'.join(record(piece) for piece in pieces) + b'\0\0'
+            right = right and is_answered(group, sent, len(sent), nonce)
+        if not right:
+            print(*group.since(0), sep='\n  ')
+        return right
+
+
 def strangers_are_let_go(plc, work):
     """Who says nothing, half a hello, something else, or a record that can't be; a machine of the group stays."""
     with Patient(plc, work) as group:
@@ -215,9 +275,8 @@ def a_message_comes_however_it_is_cut(plc, work):
         group.start(0, 2)
         right, hello = group.says(0, 'driving view 0'), hello_of(group, 1, 5).spelled()
         for cut in range(1, len(hello) + 2 + 2 + 23):
-            nonce = os.urandom(8)
-            question = b'\0\0\0\x13' + bytes([9, 1, 0]) + nonce + bytes(8)
-            right = right and is_answered(group, hello + b'\0\0' + b'\0\x17' + question, cut, nonce)
+            asked, nonce = question()
+            right = right and is_answered(group, hello + b'\0\0' + record(asked), cut, nonce)
             if not right:
                 print('  cut at', cut, *group.since(0), sep='\n  ')
                 return False
@@ -308,5 +367,5 @@ def a_partition_heals(plc, work):
         return right
 
 
-GATE = [hellos_are_refused, strangers_are_let_go, a_message_comes_however_it_is_cut,
-        another_group_is_told_at_both_ends, a_partition_heals]
+GATE = [hellos_are_refused, hellos_are_spelled, strangers_are_let_go, a_message_comes_however_it_is_cut,
+        a_message_comes_in_whatever_records, another_group_is_told_at_both_ends, a_partition_heals]

@@ -14,7 +14,7 @@ use vr_model::{Config, MOST_REPLICAS};
 const NONCES: u64 = 1 << 32;
 
 /// An epoch, as `2.11`: its number, and the byte of which the sum of its image is made.
-pub fn epoch_of(text: &str) -> Option<Epoch> {
+fn epoch_of(text: &str) -> Option<Epoch> {
     let (number, image) = text.split_once('.')?;
     Some(Epoch {
         number: number.parse::<u64>().ok()?,
@@ -195,7 +195,7 @@ fn tell_staying(alloc: Global, step: Step) -> Result<String, AllocError> {
 }
 
 /// What a store is to have.
-pub fn tell_kept(alloc: Global, kept: &Kept) -> Result<String, AllocError> {
+fn tell_kept(alloc: Global, kept: &Kept) -> Result<String, AllocError> {
     match kept {
         Kept::Nothing => String::from_str(alloc, "nothing"),
         Kept::Above(epoch) => tell_epoch(alloc, "above", epoch),

@@ -1,6 +1,6 @@
-//! Fields: texts with their faults, and cycles that are told what happens.
+//! Fields: cycles that are told what happens.
 
-use crate::notation::{bytes_of, cut, front, lines_of, put_made, told, told_bytes, unreadable};
+use crate::notation::{bytes_of, front, lines_of, put_made, told_bytes, unreadable};
 use field_cycle::{Action, Change, Cycle, LinkFault, Moment, Who};
 use field_map::FieldMap;
 use modbus_wire::{Adu, Session};
@@ -12,40 +12,6 @@ const ACTIONS: u32 = 1000;
 
 /// A PDU has at most so many bytes (V1.1b3, section 4.1).
 const MOST_BYTES: usize = 253;
-
-/// What comes out of a cell in a table of this title, for this text of a field.
-pub fn table(alloc: Global, title: &str, cell: &str, field: &str) -> io::Result<String> {
-    match title {
-        "change of the field" => changed(alloc, field, cell),
-        _ => Err(unreadable()),
-    }
-}
-
-/// What a text says: `good`, or its fault.
-fn judged(alloc: Global, text: &str) -> io::Result<String> {
-    match FieldMap::read(alloc, text) {
-        Ok(_) => told(alloc, "good"),
-        Err(fault) => Ok(format!(in alloc; "{fault}")?),
-    }
-}
-
-/// The text in which `; ` is the end of a line.
-fn in_lines(alloc: Global, text: &str) -> Result<String, AllocError> {
-    text.trim().replace(alloc, "; ", "\n")
-}
-
-/// What a text says in which one part stands in place of another, which is in it once: `PART => OTHER`.
-fn changed(alloc: Global, text: &str, change: &str) -> io::Result<String> {
-    let (part, other) = cut(change, "=>")?;
-    let text = replaced(alloc, text, in_lines(alloc, part)?.as_str(), other)?;
-    judged(alloc, text.as_str())
-}
-
-fn replaced(alloc: Global, text: &str, part: &str, other: &str) -> io::Result<String> {
-    let (before, behind) = cut(text, part)?;
-    let other = in_lines(alloc, other)?;
-    Ok(format!(in alloc; "{before}{other}{behind}")?)
-}
 
 fn named(alloc: Global, who: Who) -> Result<String, AllocError> {
     match who {

@@ -1,8 +1,7 @@
-//! Frames between replicas: streams that are cut or replaced, and the frames of messages.
+//! Frames between replicas: streams that are cut or replaced, and the messages of frames.
 ghost use Rattle.std.specs.Prelude.{◌≤◌, ◌<◌, length};
 
-use crate::messages::message;
-use crate::notation::{bytes_of, lines_of, otherwise, told, told_bytes, unreadable};
+use crate::notation::{bytes_of, otherwise, unreadable};
 use std::alloc::{AllocError, Global};
 use std::io;
 use vr_model::Message;
@@ -10,6 +9,24 @@ use vr_wire::{Feed, WireError, WireFault, write};
 
 /// The longest body of a frame.
 const LONGEST: u32 = 67_108_864;
+
+/// The frame of a message.
+pub fn frame_of(alloc: Global, message: &Message) -> io::Result<Vec<u8>> {
+    match write(alloc, message) {
+        Ok(frame) => Ok(frame),
+        Err(_) => Err(unreadable()),
+    }
+}
+
+/// The message of a frame, which is handed in as a row writes it.
+pub fn message_of(alloc: Global, text: &str) -> io::Result<Message> {
+    let frame = bytes_of(alloc, text)?;
+    let mut out = Vec::new(alloc);
+    let _fed = Feed::new(alloc).feed(alloc, frame.as_slice(), &mut out);
+    let message = out.pop();
+    drop(out);
+    message.ok_or(unreadable())
+}
 
 /// The messages of a stream, and the fault behind them.
 type Fed = (Vec<Message>, Option<WireFault>);
@@ -22,8 +39,13 @@ fn fed(alloc: Global, stream: &[u8], cut: usize) -> Result<Fed, AllocError>
     requires { cut ≤ length stream.now }
 {
     let mut out = Vec::new(alloc);
-    let fault = fault_of(alloc, stream.split_at(cut), &mut out)?;
-    Ok((out, fault))
+    match fault_of(alloc, stream.split_at(cut), &mut out) {
+        Ok(fault) => Ok((out, fault)),
+        Err(error) => {
+            drop(out);
+            Err(error)
+        }
+    }
 }
 
 /// The fault of two pieces, behind which nothing more comes.
@@ -46,7 +68,9 @@ fn seen(alloc: Global, stream: &[u8], cut: usize) -> Result<Seen, AllocError>
     requires { cut ≤ length stream.now }
 {
     let (messages, fault) = fed(alloc, stream, cut)?;
-    Ok((messages.len(), fault))
+    let count = messages.len();
+    drop(messages);
+    Ok((count, fault))
 }
 
 /// What stands behind the frames of these messages; none where a stream doesn't begin with them.
@@ -76,7 +100,10 @@ fn is_judged(rest: &[u8], fault: Option<WireFault>) -> bool {
 /// waits.
 fn is_read_as_framed(alloc: Global, stream: &[u8]) -> Result<bool, AllocError> {
     let (messages, fault) = fed(alloc, stream, stream.len() / 2)?;
-    Ok(behind(alloc, stream, messages.as_slice()).is_some_and(|rest| is_judged(rest, fault)))
+    let rest = behind(alloc, stream, messages.as_slice());
+    let is_so = rest.is_some_and(|rest| is_judged(rest, fault));
+    drop(messages);
+    Ok(is_so)
 }
 
 /// A stream whose byte at a place is `FF`.
@@ -139,7 +166,7 @@ fn stream(alloc: Global, text: &str) -> io::Result<String> {
 
 /// What is seen of a stream that is read as it should be, wherever it's cut or spoilt.
 fn soundly_seen(alloc: Global, stream: &[u8]) -> Result<Option<Seen>, AllocError> {
-    if is_read_when_spoilt(alloc, stream)? {
+    if is_read_as_framed(alloc, stream)? && is_read_when_spoilt(alloc, stream)? {
         seen_at_each_cut(alloc, stream)
     } else {
         Ok(None)
@@ -182,43 +209,5 @@ pub fn table(alloc: Global, title: &str, cell: &str) -> io::Result<String> {
         "stream of frames" => stream(alloc, cell),
         "byte replaced" => replaced(alloc, cell),
         _ => Err(unreadable()),
-    }
-}
-
-/// Whether a frame is read as one message, which has just that frame.
-fn is_read_back(alloc: Global, frame: &[u8]) -> bool {
-    let mut out = Vec::new(alloc);
-    let fed = Feed::new(alloc).feed(alloc, frame, &mut out);
-    fed.is_ok()
-        && out.len() == 1
-        && write(alloc, &out[0]).is_ok_and(|again| again.as_slice() == frame)
-}
-
-/// Whether a frame is read as just its message, and what is read when it's spoilt is as it should be.
-fn is_sound(alloc: Global, frame: &[u8]) -> Result<bool, AllocError> {
-    Ok(is_read_back(alloc, frame) && is_read_when_spoilt(alloc, frame)?)
-}
-
-/// A sound frame in hexadecimal.
-fn shown(alloc: Global, frame: &[u8]) -> io::Result<String> {
-    if is_sound(alloc, frame)? {
-        told_bytes(alloc, frame)
-    } else {
-        Err(otherwise())
-    }
-}
-
-/// The frame of a message, in hexadecimal; `none` where it has none.
-pub fn frame(alloc: Global, text: &str) -> io::Result<String> {
-    let lines = lines_of(alloc, text)?;
-    let message = message(alloc, lines.as_slice())?;
-    frame_of(alloc, &message)
-}
-
-fn frame_of(alloc: Global, message: &Message) -> io::Result<String> {
-    match write(alloc, message) {
-        Ok(frame) => shown(alloc, frame.as_slice()),
-        Err(WireError::Fault(WireFault::BadFrame)) => told(alloc, "none"),
-        Err(_) => Err(unreadable()),
     }
 }

@@ -1,28 +1,18 @@
-//! Reads files of rows, checks that the blocks, the Modbus sessions, the frames between replicas and the cycles of a
-//! field come out as each row says, and prints those that come out otherwise and how many rows each file has. It ends
-//! with the status 1 where one does. `data/README.md` tells how a row is written. No crate uses it.
+//! Reads files of rows of what only shows inside of the program: frames between replicas, replicas and controllers by
+//! the frames that they take and send, drivers and epochs of machines, cycles of a field. It prints the rows that come
+//! out otherwise, and how many each file has, and ends with the status 1 where one does. `data/README.md` tells how a
+//! row is written. What shows from outside is tried over the program itself (`tools/try-built`). No crate uses it.
 #![tactic(auto)]
 
-mod blocks;
-mod checkpoints;
-mod clients;
-mod controllers;
 mod drivers;
 mod epochs;
-mod field_pages;
 mod fields;
 mod frames;
 mod groups;
-mod hellos;
-mod machine_stores;
-mod messages;
 mod notation;
-mod pages;
 mod replicas;
 mod rows;
-mod sessions;
 mod stores;
-mod values;
 
 use rows::Found;
 use std::process::ExitCode;
@@ -44,7 +34,7 @@ fn main(rt: HostRuntime) -> io::Result<ExitCode> {
     for file in words.iter().skip(1) {
         let name = file.as_str();
         let text = fs::read_to_string(&rt, name)?;
-        let found = rows::checked(&rt, rt.alloc(), name, text.as_str())?;
+        let found = rows::checked(rt.alloc(), name, text.as_str())?;
         if !is_as_said(&rt, name, &found)? {
             status = ExitCode::FAILURE;
         }

@@ -1,8 +1,7 @@
 //! Numbers, bytes and lines as a row writes them.
 
-use il_model::{Cells, DoubleType, Loc, Value, words_of};
 use std::alloc::{AllocError, Global};
-use std::{io, str};
+use std::io;
 
 /// The error of a row that nothing can be made of.
 pub fn unreadable() -> io::Error {
@@ -32,14 +31,6 @@ pub fn told(alloc: Global, text: &str) -> io::Result<String> {
 /// The bytes of what comes out, in hexadecimal.
 pub fn told_bytes(alloc: Global, bytes: &[u8]) -> io::Result<String> {
     Ok(hex::encode(alloc, bytes)?)
-}
-
-/// A line that was printed, with its status behind it.
-pub fn with_status(alloc: Global, printed: &[u8], status: u8) -> io::Result<String> {
-    match str::from_utf8(printed) {
-        Ok(line) => Ok(format!(in alloc; "{} ({status})", line.trim_end())?),
-        Err(_) => Err(unreadable()),
-    }
 }
 
 /// Puts a text that was made.
@@ -123,49 +114,4 @@ pub fn behind<'a>(text: &'a str, name: &str) -> Option<&'a str> {
 /// The number behind a name.
 pub fn number_of(text: &str, name: &str) -> Option<u64> {
     behind(text, name)?.parse::<u64>().ok()
-}
-
-/// Puts a value at a place; none where there is no such place.
-fn put_at<T: Copy + Drop>(cells: &mut [T], place: u16, value: T) -> Option<()> {
-    *cells.get_mut(usize::from(place))? = value;
-    Some(())
-}
-
-fn put_word_at(cells: &mut Cells, place: u16, number: &str) -> Option<()> {
-    put_at(&mut cells.words, place, number.parse::<i16>().ok()?)
-}
-
-/// Puts the words of a DINT, the high one first.
-fn put_double_at(cells: &mut Cells, place: u16, number: &str) -> Option<()> {
-    let value = Value::Dint(number.parse::<i32>().ok()?);
-    let (high, low) = words_of(DoubleType::Dint.pattern(value)?);
-    put_at(&mut cells.words, place, high)?;
-    put_at(&mut cells.words, place.saturating_add(1), low)
-}
-
-/// Puts a cell as a row writes it: `%QX0.0`, which is TRUE, `%QW0=-2` or `%QD0=70000`.
-fn put_cell(cells: &mut Cells, word: &str) -> Option<()> {
-    let (place, number) = word.split_once('=').unwrap_or((word, "1"));
-    match il_model::extended_location_from(place.as_bytes())? {
-        Loc::Bit(_, bit) => put_at(&mut cells.bits, bit, true),
-        Loc::Word(_, place) | Loc::Pattern(_, place) => put_word_at(cells, place, number),
-        Loc::Double(_, place, _) => put_double_at(cells, place, number),
-    }
-}
-
-/// Puts the cells of these words; those that begin with no `%` aren't read.
-fn put_cells(cells: &mut Cells, text: &str) -> Option<()> {
-    for word in text.split_whitespace() {
-        if word.starts_with('%') {
-            put_cell(cells, word)?;
-        }
-    }
-    Some(())
-}
-
-/// The cells of these words.
-pub fn cells_of(text: &str) -> io::Result<Cells> {
-    let mut cells = Cells::clear();
-    put_cells(&mut cells, text).ok_or(unreadable())?;
-    Ok(cells)
 }

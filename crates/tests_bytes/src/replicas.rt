@@ -1,14 +1,13 @@
-//! Replicas of a group of three: events, what they make a replica send, and what it is then.
+//! Replicas of a group of three: events, what they make a replica send, and what it is then. Messages are frames.
 
-use crate::controllers::image;
-use crate::messages::{frame_of, message, request};
-use crate::notation::{behind, cut, front, lines_of, number_of, told, unreadable};
+use crate::frames::{frame_of, message_of};
+use crate::notation::{behind, bytes_of, cut, front, lines_of, number_of, told, unreadable};
 use crate::stores::Store;
-use il_loader::Image;
+use il_loader::{Image, load};
 use il_model::Budget;
 use std::alloc::{AllocError, Global};
 use std::io;
-use vr_model::{Config, Event, Message, Party};
+use vr_model::{Body, Config, Event, Message, Party};
 use vr_replica::{Replica, StepFault};
 
 /// A replica with its store.
@@ -29,7 +28,7 @@ struct Group {
 /// Messages as they're said, or how many there are.
 fn tell_messages(alloc: Global, sent: &[Message], said: &str) -> io::Result<String> {
     let count = sent.len();
-    if count > 0 && said.contains('=') && are_written(alloc, sent, said)? {
+    if count > 0 && !said.ends_with(" messages") && are_written(alloc, sent, said)? {
         told(alloc, said)
     } else {
         Ok(format!(in alloc; "{count} messages")?)
@@ -77,10 +76,11 @@ fn config(text: &str) -> Option<Config> {
 
 /// The image, as `image=494c..`.
 fn image_of(alloc: Global, text: &str) -> io::Result<Image> {
-    image(alloc, behind(text, "image=").ok_or(unreadable())?)
+    let bytes = bytes_of(alloc, behind(text, "image=").ok_or(unreadable())?)?;
+    load(alloc, bytes.as_slice()).ok().ok_or(unreadable())
 }
 
-/// The replica of this number, as `every=1 image=494c..` and maybe `is=down` say.
+/// The replica of this number, as `every=1 budget=10 image=494c..` and maybe `is=down` say.
 fn replica(alloc: Global, number: u8, text: &str) -> io::Result<Replica> {
     let (config, budget) = limits(text).ok_or(unreadable())?;
     let image = image_of(alloc, text)?;
@@ -90,9 +90,10 @@ fn replica(alloc: Global, number: u8, text: &str) -> io::Result<Replica> {
     })
 }
 
-/// A group's settings, and the budget of a scan.
+/// A group's settings, and the budget of a scan, as `budget=10` says, or 10000.
 fn limits(text: &str) -> Option<(Config, Budget)> {
-    Some((config(text)?, Budget::new(10_000)?))
+    let budget = code(text, "budget=", 10_000)?;
+    Some((config(text)?, Budget::new(u32::from(budget))?))
 }
 
 fn new_node(alloc: Global, number: u8, text: &str) -> io::Result<Node> {
@@ -103,36 +104,20 @@ fn new_node(alloc: Global, number: u8, text: &str) -> io::Result<Node> {
     })
 }
 
-/// The replicas of these numbers.
-fn nodes(alloc: Global, text: &str) -> io::Result<Vec<Node>> {
-    let mut nodes = Vec::new(alloc);
+/// Puts the replicas of these numbers.
+fn put_nodes(alloc: Global, nodes: &mut Vec<Node>, text: &str) -> io::Result<()> {
     for word in text.split_whitespace() {
         if let Some(number) = number(word) {
             nodes.push(new_node(alloc, number, text)?)?;
         }
     }
-    Ok(nodes)
+    Ok(())
 }
 
-/// A message, its lines with `, ` between them.
-fn written(alloc: Global, text: &str) -> io::Result<Message> {
-    let mut lines = Vec::new(alloc);
-    for line in text.split(", ") {
-        lines.push(line)?;
-    }
-    message(alloc, lines.as_slice())
-}
-
-/// Whether two messages are the same: they have one frame.
-fn are_same(alloc: Global, one: &Message, other: &Message) -> io::Result<bool> {
-    let one = frame_of(alloc, one)?;
-    let other = frame_of(alloc, other)?;
-    Ok(one.as_slice() == other.as_slice())
-}
-
-/// Whether a message is as it's written.
+/// Whether a message has the frame that is written.
 fn is_written(alloc: Global, sent: &Message, text: &str) -> io::Result<bool> {
-    are_same(alloc, sent, &written(alloc, text)?)
+    let frame = frame_of(alloc, sent)?;
+    Ok(frame.as_slice() == bytes_of(alloc, text)?.as_slice())
 }
 
 /// Whether messages are as they're written, with `; ` between them.
@@ -179,11 +164,22 @@ impl Node {
         format!(in alloc; "{is} commit={commit}")
     }
 
-    /// Whether its log has this entry, as `op=1 C0 1 step`.
+    /// Whether its log has this entry, as `op=1` and a message that asks for it.
     fn has(&self, alloc: Global, text: &str) -> Option<bool> {
-        let (place, asked) = text.split_once(' ')?;
-        let request = request(alloc, asked)?;
-        Some(self.replica.entry(place_of(place)?) == Some(&request))
+        let (place, frame) = text.split_once(' ')?;
+        let place = place_of(place)?;
+        let message = message_of(alloc, frame).ok()?;
+        let has = self.is_at(place, &message.body);
+        drop(message);
+        Some(has)
+    }
+
+    /// Whether its log has at a place what a message asks for.
+    fn is_at(&self, place: u64, asked: &Body) -> bool {
+        match asked {
+            Body::Request(request) => self.replica.entry(place) == Some(request),
+            _ => false,
+        }
     }
 
     /// How many of the first entries its log has.
@@ -236,17 +232,30 @@ impl Group {
         self.nodes.get(place).ok_or(unreadable())
     }
 
+    /// The replica of this number.
+    fn node_of(&mut self, number: u8) -> Option<&mut Node> {
+        let place = self.nodes.iter().position(|node| node.number == number)?;
+        self.nodes.get_mut(place)
+    }
+
     /// What an event makes a replica of this number send, or its fault.
     fn step(&mut self, alloc: Global, number: u8, happens: Happens) -> io::Result<Stepped> {
-        let place = self.place(number)?;
-        let node = self.nodes.get_mut(place).ok_or(unreadable())?;
-        Ok(node.step(alloc, happens))
+        match self.node_of(number) {
+            Some(node) => Ok(node.step(alloc, happens)),
+            None => {
+                drop(happens);
+                Err(unreadable())
+            }
+        }
     }
 
     /// A message comes; to a client nothing happens.
     fn deliver(&mut self, alloc: Global, message: Message) -> io::Result<Stepped> {
         match message.to {
-            Party::Client(_) => Ok(Ok(Vec::new(alloc))),
+            Party::Client(_) => {
+                drop(message);
+                Ok(Ok(Vec::new(alloc)))
+            }
             Party::Replica(number) => {
                 self.step(alloc, number, Happens::Event(Event::Message(message)))
             }
@@ -274,11 +283,11 @@ impl Group {
 
     /// What happens: an event of a replica, `deliver 2`, or a message.
     fn happen(&mut self, alloc: Global, text: &str) -> io::Result<Stepped> {
-        let (verb, rest) = cut(text, " ")?;
+        let (verb, rest) = front(text, " ");
         match verb {
             "timeout" | "resend" | "restart" | "crash" => self.happen_to(alloc, verb, rest),
             "deliver" => self.deliver_again(alloc, rest),
-            _ => self.deliver(alloc, written(alloc, text)?),
+            _ => self.deliver(alloc, message_of(alloc, text)?),
         }
     }
 
@@ -295,9 +304,11 @@ impl Group {
         mut sent: Vec<Message>,
         said: &str,
     ) -> io::Result<String> {
-        let told = tell_messages(alloc, sent.as_slice(), said)?;
-        self.sent.append(&mut sent)?;
-        Ok(told)
+        let told = tell_messages(alloc, sent.as_slice(), said);
+        let kept = self.sent.append(&mut sent);
+        drop(sent);
+        kept?;
+        told
     }
 
     /// What an event comes to: the messages, or a fault.
@@ -310,14 +321,14 @@ impl Group {
 
     /// Whether the message at this place is as it's said.
     fn tell_message(&self, alloc: Global, place: &str, said: &str) -> io::Result<String> {
-        let message = self.message(alloc, place)?;
-        let is_said = is_written(alloc, &message, said)?;
+        let message = self.sent(place).ok_or(unreadable())?;
+        let is_said = is_written(alloc, message, said)?;
         told(alloc, if is_said { said } else { "another" })
     }
 
     /// What there is: `is R1`, `log R1`, `store R1`, or the message `sent 6`.
     fn tell(&mut self, alloc: Global, text: &str, said: &str) -> io::Result<String> {
-        let (what, rest) = cut(text, " ")?;
+        let (what, rest) = front(text, " ");
         match what {
             "is" | "log" | "store" => self.node(rest)?.tell(alloc, what, said),
             "sent" => self.tell_message(alloc, rest, said),
@@ -332,6 +343,12 @@ impl Group {
         Ok(format!(in alloc; "{text}: {told}\n")?)
     }
 
+    /// The lines of a run of these replicas.
+    fn run(&mut self, alloc: Global, text: &str, body: &str) -> io::Result<String> {
+        put_nodes(alloc, &mut self.nodes, text)?;
+        self.tell_all(alloc, body)
+    }
+
     fn tell_all(&mut self, alloc: Global, body: &str) -> io::Result<String> {
         let mut came = String::new(alloc);
         for line in lines_of(alloc, body)? {
@@ -343,7 +360,11 @@ impl Group {
 
 /// The lines of a run of these replicas, each with what comes of it.
 pub fn run(alloc: Global, text: &str, body: &str) -> io::Result<String> {
-    let nodes = nodes(alloc, text)?;
-    let sent = Vec::new(alloc);
-    Group { nodes, sent }.tell_all(alloc, body)
+    let mut group = Group {
+        nodes: Vec::new(alloc),
+        sent: Vec::new(alloc),
+    };
+    let came = group.run(alloc, text, body);
+    drop(group);
+    came
 }
