@@ -29,7 +29,7 @@
 //! By its code alone: that what is counted of a piece is added to the traffic once its replies went out.
 //!
 //! Shown by tests: that a reply doesn't wait for the next request, and that the read for it enters anew (`modbus.rows`
-//! of `tests_bytes`, with sessions that fail in the middle); the service (`tools/try-serve`); that
+//! of `tools/serving`, with sessions that are cut anywhere); the service (`tools/try-serve`); that
 //! clients of others are content (`tools/try-clients`).
 #![tactic(auto)]
 

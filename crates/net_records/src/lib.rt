@@ -18,7 +18,7 @@
 //! changes neither, and is put between two records. Of a prefix of a stream a prefix of its bodies is given
 //! (`know_records`).
 //!
-//! Rows of `tests_bytes` have streams of records, cut at each byte.
+//! `tools/try-serve` tries streams of records, however they are cut.
 #![tactic(auto)]
 
 mod incoming;

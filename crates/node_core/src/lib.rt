@@ -11,14 +11,13 @@
 //!
 //! It shares with the program what decides: the replica (`vr_replica`), its timer (`GroupPatience`), what is done about
 //! epochs (`ColdStart`), when the machine leads, submits and shows (`MachineDriver`). What its driver does is decided
-//! by `plc_node_core`, and what follows of each step about epochs by `plc_host_core`; plc_member does both by code of
-//! its own (`drive`, `port`, `requester`, `filling`; `keeper`, `freezing`, `held_link`). It has a copy of what joins
-//! the rest there, where it stands between threads: when a replica starts, steps and shows, and the last scan of a log
-//! (`scans`). The copy differs in two ways: a frozen replica is frozen in the very call that freezes it, and not
-//! between two threads; and what an operator is told is left out. A stage is filled in the turn in which its machine
-//! begins to lead, and behind each message that comes to a driver that one has a turn at once: so it is in the program.
-//! So a fault of the shared values shows in it, and one of plc_member's own code only where these, or the copy, have
-//! it, too.
+//! by `plc_node_core`, and what follows of each step about epochs by `plc_host_core`; docs/PROVED.md says what of
+//! plc_member these two decide, and what it decides itself. It has a copy of what joins the rest there, where it stands
+//! between threads: when a replica starts, steps and shows, and the last scan of a log (`scans`). The copy differs in
+//! two ways: a frozen replica is frozen in the very call that freezes it, and not between two threads; and what an
+//! operator is told is left out. A stage is filled in the turn in which its machine begins to lead, and behind each
+//! message that comes to a driver that one has a turn at once: so it is in the program. So a fault of the shared values
+//! shows in it, and one of plc_member's own code only where these, or the copy, have it, too.
 //!
 //! Proved: a host whose life is over, and a node that has ended, do nothing any more (`Host::step`, `Node::turn` and
 //! its other calls); no answer reaches a replica that is frozen (`Host::step`); which scan is the last of a log of
