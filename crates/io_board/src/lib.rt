@@ -14,7 +14,7 @@
 //! last, so many words. Each call returns.
 //!
 //! By its code alone: that the words of a read are those of one publish, and never go back to an earlier one. No
-//! contract follows a word from one thread to another; `board_rows` of `tests_threads` tries it with threads.
+//! contract follows a word from one thread to another; `board_rows` of `tests_parts` tries it with threads.
 #![tactic(auto)]
 
 mod board;

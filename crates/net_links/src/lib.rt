@@ -16,10 +16,10 @@
 //! a newer end of a connection takes the place of the earlier one of the same party, so of each party one waits at most.
 //! Each call is safe and returns, but for the wait of a poll.
 //!
-//! Tested (`link_rows` of `tests_threads`): that messages come in order, that a link is closed where it's cut and once
-//! all others are, and made anew, a thousand times with nobody receiving, that a connection which is over is made anew
-//! while the link at neither end is cut, that a message without a frame is counted, that a stranger who was faster is
-//! refused.
+//! Tested (`link_rows` of `tests_parts`): that messages come in order, that a link is closed where it's cut and once
+//! all others are, and made anew, that a connection which is over is made anew while the link at neither end is cut,
+//! that a message without a frame is counted, that a stranger who was faster is refused; and that crashes leave no
+//! descriptor (`tools/try-serve`).
 //! In no clause: that a socket delivers, what a poll reports, that a send doesn't wait, that a receive reads no more
 //! than 1 MiB of one connection.
 #![tactic(auto)]

@@ -32,12 +32,12 @@
 //! epoch. Each call is safe and returns, but for the wait of a poll or a lock.
 //!
 //! Tested (`tools/try-serve`): each refusal, that it's answered and told at both ends, that a higher start replaces an
-//! older one, hello and record cut at each byte, strangers that are let go, a partition that heals; and a party that
-//! stands still (`peer_rows` of `tests_threads`). By its code alone: that the hello by which a link judges others' is
-//! its own; that a party is forgotten only once it's connected; that a party which isn't connected has no `Outbox`,
-//! since only an open connection has one. In no clause: that a socket delivers, what a poll reports, that a send
-//! doesn't wait, that what is handed to the exchange is given to its party. Nothing is authentic or secret: addresses
-//! belong on a network of the group's own.
+//! older one, hello, record and visit however they are cut, strangers that are let go, a partition that heals, a party
+//! that stands still. By its code alone: that the hello by which a link judges others' is its own; that a party is
+//! forgotten only once it's connected; that a party which isn't connected has no `Outbox`, since only an open
+//! connection has one. In no clause: that a socket delivers, what a poll reports, that a send doesn't wait, that what
+//! is handed to the exchange is given to its party. Nothing is authentic or secret: addresses belong on a network of the
+//! group's own.
 #![tactic(auto)]
 
 mod accepted;

@@ -13,8 +13,8 @@
 //! replica is after its last step (`specs/Showing`). How the steps of a group come to one history is said in
 //! `laws_threads`.
 //!
-//! No contract says what a gate looks at, unless its `has_seen` does. Tests, on which nothing rests alone:
-//! `serving_rows` of `tests_threads`.
+//! No contract says what a gate looks at, unless its `has_seen` does, or that a timer is told of what is heard
+//! (`tools/try-serve`: a group whose machines are all there keeps its primary).
 #![tactic(auto)]
 
 mod observer;

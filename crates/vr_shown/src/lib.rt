@@ -13,7 +13,7 @@
 //! writer published last is what it was told, by what showed before (`specs/Showing`).
 //!
 //! By the code of io_board alone: that what a reader reads is what the writer published (`board_rows` of
-//! `tests_threads`).
+//! `tests_parts`).
 #![tactic(auto)]
 
 mod ends;
