@@ -77,15 +77,15 @@ ENDS = [(b'POST / HTTP/1.1\r\nHost: 127.0.0.1:7680\r\n\r\n{"force":["%IW0",1]}\n
         (b'"cr"\n=\n=\n=\n"reset"\n', b'refused 1\nplc: commands\nplc: commands\nplc: session ends\n')]
 
 
-def connection(port):
-    return socket.create_connection(('127.0.0.1', port), PATIENCE)
+def connection(port, host='127.0.0.1'):
+    return socket.create_connection((host, port), PATIENCE)
 
 
 class Operator:
     """One at a console."""
 
-    def __init__(self, port):
-        self.stream = connection(port)
+    def __init__(self, port, host='127.0.0.1'):
+        self.stream = connection(port, host)
         self.lines = self.stream.makefile('rb')
 
     def close(self):
@@ -244,8 +244,6 @@ def a_deaf_operator_is_let_go(plc, work):
         right = served.status() == 0 and served.out == 'scans 100\n' and right
         deaf.close()
     return right
-
-
 
 
 GATE = [an_operator_is_answered, an_operator_is_answered_over_crashes, no_commands_are_refused, an_operator_gives_way,

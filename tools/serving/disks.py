@@ -121,8 +121,8 @@ def a_lost_group_ends(plc, work):
 
 def a_hanging_disk_stops_no_scan(plc, work):
     """The primary's start anew waits for a disk that doesn't answer: no scan waits for it. At the end that's told, with
-    the status of a device that failed."""
-    with crashing(plc, work, hangs, source=COUNTS, scans=200) as served:
+    the status of a device that failed. Here replicas are joined by channels."""
+    with crashing(plc, work, hangs, '--links', 'channel', source=COUNTS, scans=200) as served:
         right = served.says('replica 0 crashed') and served.says('replica 0 down') and served.process.poll() is None
         with served.client() as client:
             before = words(client, 4, 1)[0]
@@ -135,5 +135,24 @@ def a_hanging_disk_stops_no_scan(plc, work):
         return True
 
 
+def crashes_leave_no_descriptor(plc, work):
+    """Replicas crash forty times, one after the other, and each makes its connections anew: behind that the process has
+    no more open files than it had behind the first five."""
+    with Served(plc, work, '--period', 20, '--crash', 1, source=COUNTS) as served:
+        def files():
+            return len(os.listdir(f'/proc/{served.process.pid}/fd'))
+
+        def crashes(count):
+            return came_true(lambda: sum('crashed' in line for line in served.lines) >= count, 2 * PATIENCE)
+
+        right = served.serves() and crashes(5)
+        before = max(files() for _ in range(100))
+        right = right and crashes(45) and came_true(lambda: files() <= before)
+        right = right and all(f'replica {n} crashed' in served.lines for n in range(3))
+        if not right:
+            print('  ', before, files(), served.lines[-20:])
+        return right
+
+
 GATE = [a_group_goes_on_without_its_primary, a_save_that_failed_is_tried_again, a_file_that_was_taken_away_comes_back,
-        a_lost_group_ends, a_hanging_disk_stops_no_scan]
+        a_lost_group_ends, a_hanging_disk_stops_no_scan, crashes_leave_no_descriptor]

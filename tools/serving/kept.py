@@ -4,6 +4,7 @@ import concurrent.futures
 import hashlib
 import os
 import shutil
+import stat
 import struct
 import subprocess
 import tempfile
@@ -16,6 +17,7 @@ KINDS = {'nothing': 0, 'above': 1, 'entered': 2, 'begun': 3}
 # what a machine tells that waits for an epoch, above one or above none
 WAITS = 'machine 0 waits for an epoch after 1', 'waits: hears 0 of 2 machines, wants 2'
 STATES = ['waits', 'waits above', 'entered', 'begun']
+ODD = {'folder': os.mkdir, 'socket': lambda path: os.mknod(path, stat.S_IFSOCK | 0o600)}    # in the place of a file
 OWN, GIVEN, CHANGED = 'LD %IX0.0\nST %QX0.0\n', 'LDN %IX0.0\nST %QX0.0\n', 'LD %IX0.1\nST %QX0.1\n'
 
 
@@ -70,6 +72,9 @@ class Made:
             files['group'] = self.spelled()
         if 'view' in self.said:
             files[f'replica-{self.said["view"]}'] = struct.pack('>QQ', 0, 1)
+        if 'kept' in self.said:
+            kept = self.said['kept']
+            files[f'replica-{self.said["machine"]}'] = kept if kept in ODD else bytes.fromhex(kept)
         for key, image in (('marked', changed), ('unknown', b''), ('torn', None)):
             if key in self.said:
                 mark = self.epoch(key) + (image or b'')
@@ -129,6 +134,9 @@ class Plant:
     def directory(self, files):
         path = tempfile.mkdtemp(dir=self.work)
         for name, content in files.items():
+            if content in ODD:
+                ODD[content](os.path.join(path, name))
+                continue
             with open(os.path.join(path, name), 'wb') as file:
                 file.write(content)
         return path
@@ -191,9 +199,8 @@ def spoilt(words, first):
         yield f'changed at {place}', 'other format' if place in (8, 9) else 'torn', changed
 
 
-def start(plant, words):
+def start(plant, path):
     """How a machine starts from a directory: the refusal, or what its lines or its view tell."""
-    path = plant.directory(plant.store(words).files(plant.images[2]))
     with open(path + '.err', 'w+') as err:
         words = [plant.plc, 'serve', '--group', plant.file, '--store', path]
         process = run(words, stdout=subprocess.DEVNULL, stderr=err)
@@ -216,6 +223,13 @@ def start(plant, words):
     return found
 
 
+def started(plant, words):
+    """How a machine starts from a directory; where that's refused, how it starts from what is left there."""
+    path = plant.directory(plant.store(words).files(plant.images[2]))
+    found = start(plant, path)
+    return start(plant, path) if found and found[0] else found
+
+
 def content(path):
     try:
         with open(path, 'rb') as file:
@@ -226,12 +240,12 @@ def content(path):
 
 def machines_start_by_their_stores(plc, work):
     """A blank directory, epochs that were entered and begun, with and without a view, a disk that was lost, the store
-    of another group or machine, bytes that are no store: one line of refusal, or a start."""
+    of another group or machine, bytes that are no store: one line of refusal, the same at each start, or a start."""
     plants = [Plant(plc, tempfile.mkdtemp(dir=work)) for _ in range(3)]     # each has ports of its own
     told, rows = refusals(), row_of('by what its directory holds').table('start')
 
     def are_said(number):
-        return [is_said(told, *row, start(plants[number], row[0])) for row in rows[number::len(plants)]]
+        return [is_said(told, *row, started(plants[number], row[0])) for row in rows[number::len(plants)]]
 
     with concurrent.futures.ThreadPoolExecutor(len(plants)) as pool:
         return all(sum(pool.map(are_said, range(len(plants))), []))
