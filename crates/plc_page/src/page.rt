@@ -201,7 +201,7 @@ async function halted(halt) {
   if (halt === null) return;
   const isHeld = halt.why === 'held';
   const all = await program();
-  const at = all.indexOf('END_VAR') + 1 + halt.position;
+  const at = all.lastIndexOf('END_VAR') + 1 + halt.position;
   const place = all.length > 0 ? 'line ' + (at + 1) : 'instruction ' + halt.position;
   byId('halted').className = isHeld ? 'wide warn' : 'wide bad';
   byId('why').textContent = isHeld ? 'Held before ' + place : 'Stopped at ' + place + ': ' + halt.why;
