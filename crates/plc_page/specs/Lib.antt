@@ -1,3 +1,4 @@
 pub mod Answers
+pub mod Outputs
 pub mod Sources
 pub mod Page

@@ -1,15 +1,11 @@
 -- What is read for the page: what shows, and the last lines that an operator was told.
-use Rattle.std.specs.Prelude.{◌≡◌, ◌<◌, ◌+◌, ℕ, suc, ℤ, pos, Bool, true, false, if◌then◌else◌, List, [], ◌∷◌}
+use Rattle.std.specs.Prelude.{◌≡◌, ◌<◌, ◌+◌, ℕ, suc, ℤ, pos, Bool, true, false, List}
 use Rattle.std.specs.Prelude.{Option, Some, None, get_or, length, ◌-◌, drop, map}
 use Rattle.http_server.specs.declared.state.Config.{Config}
 use Rattle.il_model.specs.declared.cells.Cells.{Cells}
 use Rattle.il_model.specs.declared.program.Loc.{Loc}
-use Rattle.il_model.specs.declared.program.Variable.{Variable}
-use Rattle.il_model.specs.declared.program.Area.{Area}
-use Rattle.il_model.specs.declared.program.Area.TheVariants as areas
 use Rattle.il_values.specs.declared.value.Value.{Value}
 use Rattle.il_values.specs.declared.value.Value.TheVariants as values
-use Rattle.il_model.specs.Locations.{area_of}
 use Rattle.il_model.specs.Doubles.{word_value, double_value}
 use Rattle.il_model.specs.declared.program.Loc.TheVariants as places
 use Rattle.vr_shown.specs.declared.shown.Shown.{Shown}
@@ -31,29 +27,9 @@ use Rattle.plc_figures.specs.declared.reading.Scans.{Scans}
 use Rattle.plc_figures.specs.declared.reading.Told.{Told}
 use Rattle.plc_figures.specs.declared.reading.Halt.TheVariants as halts
 use Rattle.plc_figures.specs.Readings.{bounds as shown_bounds, functions as shown_functions}
-use Rattle.plc_page.specs.declared.source.Named.{Named}
+use Rattle.plc_page.specs.declared.outputs.Named.{Named}
 use Rattle.plc_page.specs.declared.whose.Whose.{Whose}
 use Rattle.plc_page.specs.declared.whose.Whose.TheVariants as whose
-
--- a name and its place
-abbrev pub spelt : Named → List ℕ × Loc
-spelt named = (named.name.items, named.place)
-
-abbrev pub spelt_option : Option Named → List (List ℕ × Loc)
-spelt_option None = []
-spelt_option (Some named) = spelt named ∷ []
-
-abbrev pub is_output : Area → Bool
-is_output areas.Output = true
-is_output area = false
-
--- a name that has this place, if that is among the outputs
-abbrev pub output_of : List ℕ → Option Loc → List (List ℕ × Loc)
-output_of name None = []
-output_of name (Some place) = if is_output (area_of place) then (name, place) ∷ [] else []
-
-abbrev pub named_output : Variable → List (List ℕ × Loc)
-named_output variable = output_of variable.name variable.location
 
 abbrev pub word_at : Cells → ℕ → ℤ
 word_at cells number = get_or cells.words number (pos 0)

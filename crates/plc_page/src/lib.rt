@@ -11,8 +11,9 @@
 //!
 //! Proved: what a request is answered is a function of its method, its path, its host and of what was read
 //! (`specs/Answers`): 200 with the page, the JSON or the figures, or 400, 404, 405, 421; each output has the value at
-//! its own place (`specs/Sources`); the last 200 lines that were told are kept (`specs/Sources`). What goes out over a
-//! connection answers the requests that came in, in order (`http_server` of the kit).
+//! its own place (`specs/Sources`), under the name of a variable that lies there, or else of the first one that an
+//! instance hands over there (`specs/Outputs`); the last 200 lines that were told are kept (`specs/Sources`). What goes
+//! out over a connection answers the requests that came in, in order (`http_server` of the kit).
 //!
 //! Tests: `page.rows` of `tools/serving` have what requests are answered. By its code alone, and tried with curl,
 //! promtool and a browser (`tools/try-page`): the service at its port, and what is read when.
@@ -20,6 +21,7 @@
 
 mod answer;
 mod notices;
+mod outputs;
 mod page;
 mod process;
 mod service;

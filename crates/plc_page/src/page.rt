@@ -101,6 +101,14 @@ ul, ol { list-style: none; margin: 0; padding: 0; }
 .lamp.warn { background: var(--warn); box-shadow: 0 0 .5rem var(--warn); }
 .bit { min-width: 4.5rem; display: flex; gap: .5rem; align-items: center; justify-content: flex-end;
   color: var(--quiet); }
+#inputs .fold, #outputs .fold { display: block; }
+.fold ul { margin-top: .3rem; padding-left: 1.3rem; border-top: 1px solid var(--line); }
+summary { display: flex; gap: .7rem; align-items: center; cursor: pointer; }
+summary::-webkit-details-marker { display: none; }
+summary::before { content: "\25b8"; width: .6rem; color: var(--quiet); }
+details[open] > summary::before { content: "\25be"; }
+summary > * { pointer-events: none; }
+.lamps { display: flex; flex-wrap: wrap; gap: .35rem; justify-content: flex-end; max-width: 50%; }
 .good { color: var(--good); }
 .bad { color: var(--bad); font-weight: 600; }
 .warn { color: var(--warn); font-weight: 600; }
@@ -163,17 +171,70 @@ function tiles(state) {
   fill('tiles', made);
 }
 
-function point(it) {
-  const isBit = it.place[2] === 'X';
-  const lamp = make('span', it.value ? 'lamp on' : 'lamp');
-  lamp.setAttribute('aria-hidden', 'true');
-  const shown = isBit ? make('span', 'bit', it.value ? 'on' : 'off', lamp) : make('span', 'number', it.value);
-  return make('li', '', make('span', 'name', it.name), make('span', 'place', it.place), shown);
+const isBit = (it) => it.place[2] === 'X';
+
+function lamp(it) {
+  const made = make('span', it.value ? 'lamp on' : 'lamp');
+  made.setAttribute('aria-hidden', 'true');
+  return made;
+}
+
+function point(it, name) {
+  const shown = isBit(it) ? make('span', 'bit', it.value ? 'on' : 'off', lamp(it)) : make('span', 'number', it.value);
+  return make('li', '', make('span', 'name', name), make('span', 'place', it.place), shown);
+}
+
+// Elements that are there already stay as they are: one that was opened stays open, and keeps the focus.
+function refill(list, made) {
+  made.forEach((it, at) => {
+    const there = list.children[at];
+    if (there === undefined) list.append(it);
+    else if (there !== it) there.replaceWith(it);
+  });
+  while (list.children.length > made.length) list.lastElementChild.remove();
+}
+
+const folds = new Map();
+
+function foldAt(front) {
+  if (!folds.has(front)) {
+    const line = make('summary');
+    const list = make('ul');
+    folds.set(front, { item: make('li', 'fold', make('details', '', line, list)), line, list });
+  }
+  return folds.get(front);
+}
+
+function count(points) {
+  const bits = points.filter(isBit);
+  return bits.length === 0 ? points.length + (points.length === 1 ? ' value' : ' values')
+    : bits.filter((it) => it.value).length + ' of ' + bits.length + ' on';
+}
+
+// An instance is one line, with a lamp for each bit, until it's opened.
+function fold(front, name, points) {
+  const { item, line, list } = foldAt(front);
+  line.replaceChildren(make('span', 'name', name), make('span', 'place', count(points)),
+    make('span', 'lamps', ...points.filter(isBit).map(lamp)));
+  refill(list, branches(front, points));
+  return item;
+}
+
+// What stands under a name with a dot behind it, of which the first parts are the front.
+function branches(front, points) {
+  const parts = new Map();
+  for (const it of points) {
+    const end = it.name.indexOf('.', front.length) + 1;
+    const part = it.name.slice(0, end > 0 ? end : undefined);
+    parts.set(part, [...(parts.get(part) ?? []), it]);
+  }
+  return [...parts].map(([part, inside]) => part.endsWith('.')
+    ? fold(part, part.slice(front.length, -1), inside) : point(inside[0], part.slice(front.length)));
 }
 
 function points(box, list, points) {
   byId(box).hidden = points.length === 0;
-  fill(list, points.map(point));
+  refill(byId(list), branches('', points));
 }
 
 function replica(it, isGood) {

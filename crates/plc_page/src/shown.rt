@@ -2,9 +2,10 @@
 
 use crate::answer::Site;
 use crate::notices::Notices;
+use crate::outputs::{Named, outputs};
 use crate::process::ProcessFiles;
 use crate::service::{Content, Page};
-use crate::source::{Named, Source, outputs};
+use crate::source::Source;
 use crate::whose::Whose;
 use il_lister::list;
 use il_loader::Image;
@@ -144,7 +145,7 @@ impl<R: DoorRuntime, J: Naming + Send + Sync + 'static> Page<R, J> {
             process,
         } = showing;
         let site = Site::at(alloc, address, version)?;
-        let outputs = outputs(alloc, image.variables())?;
+        let outputs = outputs(alloc, image)?;
         let (source, journal) = source_of(published, outputs, notices, process);
         let content = Content {
             site,

@@ -1,15 +1,14 @@
 //! Where what shows is read.
 
 ghost use Rattle.std.specs.Prelude.{◌≡◌, ◌≤◌, ◌+◌, IfOk, get_or, map, pos, vec_len};
-ghost use Rattle.std.specs.List.{flat_map};
 ghost use Rattle.plc_page.specs.Sources.{halt_of, point_at, replica_of, shown, shows_outputs, value_at};
 ghost use Rattle.plc_page.specs.Sources.{AreOfStatus, IsOfClients, IsOfScans};
-ghost use Rattle.plc_page.specs.Sources.{named_output, output_of, spelt, spelt_option};
 
 use crate::notices::Notices;
+use crate::outputs::Named;
 use crate::process::ProcessFiles;
 use crate::whose::Whose;
-use il_model::{Area, Cells, Loc, Value, Variable, word_value};
+use il_model::{Cells, Loc, Value, word_value};
 use io_image::{Naming, ReleasedReader};
 use plc_figures::{Clients, Halt, Machine, Point, Reading, Replica, Scans};
 use plc_host::Host;
@@ -20,13 +19,6 @@ use std::sync::atomic::{AtomicBool, Ordering};
 use std::sync::{Arc, Wait};
 use std::time::{Clock, Duration, Instant};
 use vr_shown::Shown;
-
-/// A name of the program, and its place among the outputs.
-#[derive(Drop)]
-pub(crate) struct Named {
-    name: Vec<u8>,
-    place: Loc,
-}
 
 /// What shows is read from these. None of them is waited for by whoever scans.
 #[derive(Drop)]
@@ -45,38 +37,11 @@ pub(crate) struct Source<J: Naming> {
     pub(crate) process: Option<ProcessFiles>,
 }
 
-/// A variable that has a place among the outputs.
-fn output(alloc: Global, variable: &Variable) -> Result<Option<Named>, AllocError>
-    ensures { IfOk result (λ named. spelt_option named ≡ output_of variable.now.name variable.now.location) }
-{
-    let Some(place) = variable.location else {
-        return Ok(None);
-    };
-    if !matches!(place.area(), Area::Output) {
-        return Ok(None);
-    }
-    let name = Vec::from_slice(alloc, variable.name.bytes())?;
-    Ok(Some(Named { name, place }))
-}
-
 /// What shows at one moment, and whether the program is the one that was served at first.
 #[derive(Drop)]
 pub(crate) struct Taken {
     pub(crate) reading: Reading,
     pub(crate) is_in_force: bool,
-}
-
-/// The variables that have a place among the outputs, in the order in which they are declared.
-pub(crate) fn outputs(alloc: Global, variables: &[Variable]) -> Result<Vec<Named>, AllocError>
-    ensures { IfOk result (λ outputs. map spelt outputs.items ≡ flat_map named_output variables.now) }
-{
-    let mut outputs = Vec::new(alloc);
-    for variable in variables {
-        if let Some(named) = output(alloc, variable)? {
-            outputs.push(named)?;
-        }
-    }
-    Ok(outputs)
 }
 
 /// The word of that number among these cells.
