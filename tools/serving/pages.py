@@ -25,6 +25,41 @@ SOURCE = """VAR START AT %IX0.3 : BOOL; LEVEL AT %QW7 : INT; SIZE AT %IW0 : INT;
     ADD 1
 """
 
+# M7 hands over to %QX0.6, to %QW3 and, by two instructions, to %QX2.0; M1 of NORTH to a VAR_IN_OUT, which is %QX1.0.
+# NORTH.M2 is another one that does, and TROUBLE lies at its place already. At %QX2.1 and %QX2.2 something else is stored.
+UNITS = """FUNCTION_BLOCK MOTOR
+  VAR_INPUT WANTED : BOOL; END_VAR
+  VAR_OUTPUT RUNS : BOOL; STARTS : INT; FAULT : BOOL; END_VAR
+  VAR START : R_TRIG; END_VAR
+    LD WANTED
+    ST RUNS
+    CAL START(CLK := WANTED)
+    LD START.Q
+    RETCN
+    LD STARTS
+    ADD 1
+    ST STARTS
+END_FUNCTION_BLOCK
+FUNCTION_BLOCK HALL
+  VAR_INPUT OPEN : BOOL; END_VAR
+  VAR_IN_OUT LAMP : BOOL; END_VAR
+  VAR M1, M2 : MOTOR; END_VAR
+    CAL M1(WANTED := OPEN, RUNS => LAMP)
+    CAL M2(WANTED := M1.RUNS, RUNS => LAMP)
+END_FUNCTION_BLOCK
+PROGRAM HALLS
+  VAR TROUBLE AT %QX7.0 : BOOL; NORTH : HALL; M7 : MOTOR; END_VAR
+    CAL M7(WANTED := TRUE, RUNS => %QX0.6, STARTS => %QW3, FAULT => %QX7.0)
+    CAL NORTH(OPEN := M7.RUNS, LAMP := %QX1.0)
+    LD M7.RUNS
+    ST %QX2.0
+    ANDN %IX0.0
+    ST %QX2.1
+    LD M7.RUNS
+    STN %QX2.2
+END_PROGRAM
+"""
+
 
 def asked(page, path, method='GET', **fields):
     """The status, the type and the text of what is answered; a host is named as `Host`, or none is."""
@@ -165,6 +200,13 @@ def what_shows_of_one_that_stopped(plc, work):
     return right
 
 
+def what_shows_of_instances(plc, work):
+    """A controller whose program has instances, which hand over to outputs."""
+    page = '127.0.0.1', free_port()
+    with Served(plc, work, '--period', 50, '--status', page[1], source=UNITS) as served:
+        return served.serves() and is_shown(row_of('what instances hand over'), page)
+
+
 def what_shows_of_a_machine(plc, work):
     """One that drives, one that stands by, and one that hears none."""
     with Patient(plc, work, has_pages=True) as group:
@@ -287,4 +329,5 @@ def rounds_agree(page):
     return right
 
 
-GATE = [what_shows_of_a_controller, what_shows_of_one_that_stopped, what_shows_of_a_machine, what_shows_of_a_field]
+GATE = [what_shows_of_a_controller, what_shows_of_one_that_stopped, what_shows_of_instances, what_shows_of_a_machine,
+        what_shows_of_a_field]
