@@ -120,13 +120,14 @@ USERS = $(DESTDIR)$(PREFIX)/lib/sysusers.d
 
 install:
 	@$(PROVED)
-	mkdir -p $(BIN) $(SHARE)/man/man1 $(SHARE)/plc/examples/console $(SHARE)/plc/examples/field $(SHARE)/plc/examples/machines $(SHARE)/plc/docs/pictures $(SHARE)/plc/tools $(UNITS) $(USERS)
+	mkdir -p $(BIN) $(SHARE)/man/man1 $(SHARE)/plc/examples/console $(SHARE)/plc/examples/field $(SHARE)/plc/examples/machines $(SHARE)/plc/docs/pictures $(SHARE)/plc/tools/importing $(UNITS) $(USERS)
 	install -m 755 build/plc $(BIN)/plc
 	tools/man-page build/plc > $(SHARE)/man/man1/plc.1
 	install -m 644 README.md SECURITY.md CHANGELOG.md CONTRIBUTING.md $(SHARE)/plc
 	install -m 644 docs/*.md $(SHARE)/plc/docs
 	install -m 644 docs/pictures/*.svg docs/pictures/*.png $(SHARE)/plc/docs/pictures
-	install -m 755 tools/number-lines $(SHARE)/plc/tools
+	install -m 755 tools/number-lines tools/import $(SHARE)/plc/tools
+	install -m 644 tools/importing/*.py $(SHARE)/plc/tools/importing
 	install -m 644 examples/*.* $(SHARE)/plc/examples
 	install -m 644 examples/console/*.* $(SHARE)/plc/examples/console
 	install -m 644 examples/field/*.* $(SHARE)/plc/examples/field
