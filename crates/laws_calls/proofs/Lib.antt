@@ -1,0 +1,16 @@
+pub mod Steps
+pub mod Words
+pub mod Labels
+pub mod Apart
+pub mod Units
+pub mod Fragments
+pub mod Places
+pub mod Calls
+pub mod Letters
+pub mod Matching
+pub mod Bodies
+pub mod Follow
+pub mod Made
+pub mod Acts
+pub mod Controlled
+pub mod WorkedCalls
