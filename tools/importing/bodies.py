@@ -116,6 +116,10 @@ class Body:
         """The operators of all instructions, among which are the functions that it calls."""
         return {it.word for it in self.instructions}
 
+    def called(self):
+        """The names of what it calls."""
+        return [it.tokens[1] for it in self.instructions if it.word in CALLS and it.tokens[1:]]
+
     def mentioned(self):
         """All words that stand in it."""
         return {it.upper for it in self.tokens if it.kind == 'word'}
@@ -430,6 +434,11 @@ class Judge:
                                                          if it.section == 'VAR_IN_OUT' and it.key() not in given]
             for name in missing:
                 self.told(f'no argument for the VAR_IN_OUT {name}', behind[0])
+            more = self.names.hand_on(self.body.unit, block, behind[0], self.told)
+            if more and behind[1:]:
+                behind[-1].text = f'{", " if behind[3:] else ""}{", ".join(more)})'
+            elif more:
+                behind[0].text += f'({", ".join(more)})'
         self.cr = self.cr if isinstance(block, str) else None
 
     def argument(self, block, tokens):

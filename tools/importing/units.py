@@ -3,7 +3,7 @@ import re
 
 from .bodies import BARE, Body, Judge, Operand, literal_as, literal_of
 from .places import NATURAL, TYPES
-from .project import ELEMENTARY, STANDARD, TAKEN, elementary, fault_of_name
+from .project import ELEMENTARY, STANDARD, TAKEN, Variable, elementary, fault_of_name
 
 MOST_NESTED = 16
 # before a program alone, since a text that begins with PROGRAM is one of another kind
@@ -14,11 +14,11 @@ SECTION_OF = {'FUNCTION': ('VAR_INPUT', 'VAR', 'VAR_EXTERNAL'), 'PROGRAM': ('VAR
 
 class Names:
     """What the names of a unit stand for. Global variables that the program is to declare are in `taken`; constants that
-    a unit is to have are in `constants`."""
+    a unit is to have are in `constants`; those that a block is handed by each call, and hands on, are in `handed`."""
 
     def __init__(self, project, program, places):
         self.project, self.program, self.places = project, program, places
-        self.taken, self.constants = {}, {}
+        self.taken, self.constants, self.handed = {}, {}, {}
         self.own = {id(it): {one.key(): one for one in reversed(it.variables) if one.section != 'VAR_EXTERNAL'}
                     for it in project.units.values()}
 
@@ -63,21 +63,37 @@ class Names:
         return 'an input of the unit itself' if variable.section == 'VAR_INPUT' else ''
 
     def take(self, unit, variable, token, told):
-        """A global variable stands in the program; elsewhere its place does, and a constant is one of the unit."""
+        """A global variable stands in the program. Elsewhere its place does, if its type follows from that; a constant is
+        one of the unit, and a block has all others as VAR_IN_OUT."""
         if variable.is_constant():
             self.constants.setdefault(id(unit), {})[variable.key()] = variable
             return
         self.taken[variable.key()] = variable
-        if unit is not self.program:
-            if variable.place:
-                self.by_place(variable, token, told)
+        place = variable.place and self.places.place(variable.place, lambda what: None)
+        if unit is self.program:
+            return
+        if place and variable.elementary() == NATURAL[place[1]]:
+            token.text = place[0]
+        elif unit.kind == 'FUNCTION':
+            told(f'a global variable in a function: {token.text}', token)
+        else:
+            self.handed.setdefault(id(unit), {})[variable.key()] = variable
+
+    def hand_on(self, unit, block, token, told):
+        """The global variables that a unit hands to a block by a call, as arguments."""
+        for key, variable in self.handed.get(id(block), {}).items():
+            if key in self.own[id(unit)]:
+                told(f'a variable of the name of a global one that {block.name} uses: {variable.name}', token)
+            elif unit is self.program:
+                self.taken[key] = variable
             else:
-                told(f'a global variable in a block or a function: {token.text}', token)
+                self.handed.setdefault(id(unit), {})[key] = variable
+        return [f'{it.name} := {it.name}' for it in self.handed.get(id(block), {}).values()]
 
     def by_place(self, variable, token, told):
         found = self.places.place(variable.place, lambda what: None)
         if found and variable.elementary() != NATURAL[found[1]]:
-            told(f'{variable.type} at a place, in a block or a function: {token.text}', token)
+            told(f"{variable.type} at a place, in a unit that isn't the program: {token.text}", token)
         elif found:
             token.text = found[0]
 
@@ -104,13 +120,16 @@ class Import:
     def __init__(self, project, places, told):
         self.project, self.places, self.told = project, places, told
         self.order, self.bodies, self.notes = [], {}, []
+        self.main, self.callers = None, {}
 
     def program(self, name):
-        """The program: the one of that name, else the one that runs, else the only one."""
+        """The program: the one of that name, else the one that runs, else the only one that no other one calls."""
         programs = [it for it in self.project.units.values() if it.kind == 'PROGRAM']
         if name is None:
             runs = {it.upper() for it, _ in self.project.runs}
             programs = [it for it in programs if it.key() in runs] or programs
+            called = {token.upper for it in programs for token in Body(it).called()}
+            programs = [it for it in programs if it.key() not in called] or programs
         else:
             programs = [it for it in programs if it.key() == name.upper()]
         if len(programs) == 1:
@@ -123,12 +142,31 @@ class Import:
 
     def used_by(self, unit):
         """The units that one uses, in the order of the file."""
-        body = self.bodies.setdefault(unit.key(), Body(unit))
+        if unit.key() not in self.bodies:
+            self.bodies[unit.key()] = Body(unit)
+            self.make_blocks(unit)
+        body = self.bodies[unit.key()]
         functions = {it for it in body.words() if it in self.project.units and self.project.units[it].kind == 'FUNCTION'}
         types = {(it.type or '').upper() for it in unit.variables}
         if unit.kind == 'PROGRAM':
             types |= {(it.type or '').upper() for key, it in self.project.globals.items() if key in body.mentioned()}
         return [it for key, it in self.project.units.items() if key in functions | types]
+
+    def make_blocks(self, unit):
+        """Makes each program that a unit calls a block, of which the unit has the one instance."""
+        own = {it.key() for it in unit.variables}
+        for token in self.bodies[unit.key()].called():
+            called = self.project.units.get(token.upper)
+            is_program = called and called.kind == 'PROGRAM' and called is not self.main
+            if token.upper in own or not is_program and self.callers.get(token.upper) is not unit:
+                continue
+            if is_program:
+                called.kind, self.callers[token.upper] = 'FUNCTION_BLOCK', unit
+                instance = Variable(f'{called.name}_1', called.at, 'VAR', set())
+                instance.type = called.name
+                unit.variables.append(instance)
+            token.text = f'{called.name}_1'
+            token.upper = token.text.upper()
 
     def put_in_order(self, unit, above):
         """Puts a unit below those that it uses."""
@@ -153,6 +191,7 @@ class Import:
         program = self.program(name)
         if not program:
             return ''
+        self.main = program
         self.put_in_order(program, [])
         self.names = Names(self.project, program, self.places)
         for unit in self.order:
@@ -317,6 +356,7 @@ class Import:
         variables += self.names.constants.get(id(unit), {}).values()
         if unit.kind == 'PROGRAM':
             variables += self.names.taken.values()
+        variables += [self.in_out(it) for it in self.names.handed.get(id(unit), {}).values()]
         last = None
         for variable in variables:
             section = ' '.join(['VAR' if variable.section == 'VAR_GLOBAL' else variable.section,
@@ -328,6 +368,13 @@ class Import:
         lines += ['  END_VAR'] * (last is not None)
         body = self.bodies[unit.key()].written()
         return [*lines, '', *body, f'END_{unit.kind}'] if body else [*lines, f'END_{unit.kind}']
+
+    @staticmethod
+    def in_out(variable):
+        """A global variable as a block has it."""
+        handed = Variable(variable.name, variable.at, 'VAR_IN_OUT', set())
+        handed.type = variable.type
+        return handed
 
     def declaration(self, variable):
         place = f' AT {self.places.place(variable.place, lambda what: None)[0]}' if variable.place else ''
