@@ -159,6 +159,7 @@ class Judge:
     def __init__(self, body, names, places, tell):
         self.body, self.names, self.places, self.tell = body, names, places, tell
         self.cr, self.open = None, []
+        self.none = 'at the start'  # where there is no current result, in words; '' if there is one
 
     def at(self, token):
         return self.body.unit.body.at(token.start)
@@ -170,12 +171,37 @@ class Judge:
         for self.number, self.now in enumerate(self.body.instructions):
             self.head()
             if self.now.tokens:
+                self.closed()
+                self.present()
                 self.instruction()
+        if self.open:
+            self.told('a parenthesis that is never closed')
+
+    def closed(self):
+        """Tells what may not stand within a parenthesis."""
+        if self.open and (self.now.label or self.now.word in (*JUMPS, *CALLS, *RETURNS, 'SEL', 'MUX')
+                          or self.names.function(self.now.word)):
+            self.told(f'a label, a jump, a call or a function within a parenthesis: {self.now.word}')
+            self.open = []
+        elif self.now.word == ')' and not self.open:
+            self.told('a parenthesis that was never opened')
+
+    def present(self):
+        """Tells an instruction that wants a current result where there is none, and keeps whether there is one behind it."""
+        word, behind = self.now.word, self.now.tokens[1:]
+        if self.none and word not in (*LOADS, 'JMP', 'CAL', 'RET'):
+            self.told(f'no current result {self.none}')
+        if word in ('JMP', 'RET') or word not in CALLS and [it.text for it in behind] == ['(']:
+            self.none = f'behind {word}'
+        elif word in CALLS and behind and self.names.is_own(self.body.unit, behind[0]):
+            self.none = 'behind a call of a block'
+        elif word != 'CAL':
+            self.none = ''
 
     def head(self):
         if not self.now.label:
             return
-        self.cr = None
+        self.cr, self.none = None, 'at a label'
         fault = fault_of_name(self.now.label.text)
         if fault:
             self.told(fault.replace('name', 'label'), self.now.label)

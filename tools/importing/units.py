@@ -97,6 +97,11 @@ class Names:
         elif found:
             token.text = found[0]
 
+    def is_own(self, unit, token):
+        """Whether a name is an instance of a block of the file."""
+        variable, _ = self.found(unit, token, lambda *_: None)
+        return variable is not None and (variable.type or '').upper() in self.project.units
+
     def block_of(self, unit, token, told):
         """The block of an instance: a name of a standard one, or a unit."""
         variable, is_global = self.found(unit, token, told)
