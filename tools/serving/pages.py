@@ -49,6 +49,7 @@ FUNCTION_BLOCK HALL
 END_FUNCTION_BLOCK
 PROGRAM HALLS
   VAR TROUBLE AT %QX7.0 : BOOL; NORTH : HALL; M7 : MOTOR; END_VAR
+  VAR DEPTH AT %QD8 : REAL; STATUS AT %QW5 : WORD; ALARMS AT %QD6 : DWORD; SUM AT %QD10 : DINT; END_VAR
     CAL M7(WANTED := TRUE, RUNS => %QX0.6, STARTS => %QW3, FAULT => %QX7.0)
     CAL NORTH(OPEN := M7.RUNS, LAMP := %QX1.0)
     LD M7.RUNS
@@ -57,6 +58,14 @@ PROGRAM HALLS
     ST %QX2.1
     LD M7.RUNS
     STN %QX2.2
+    LD -1.5
+    ST DEPTH
+    LD WORD#16#00FB
+    ST STATUS
+    LD DWORD#16#8000000A
+    ST ALARMS
+    LD DINT#-70000
+    ST SUM
 END_PROGRAM
 """
 
@@ -201,7 +210,7 @@ def what_shows_of_one_that_stopped(plc, work):
 
 
 def what_shows_of_instances(plc, work):
-    """A controller whose program has instances, which hand over to outputs."""
+    """A controller whose program has instances, which hand over to outputs, and outputs of most types."""
     page = '127.0.0.1', free_port()
     with Served(plc, work, '--period', 50, '--status', page[1], source=UNITS) as served:
         return served.serves() and is_shown(row_of('what instances hand over'), page)
