@@ -3,10 +3,11 @@ use Rattle.std.proofs.Common.{◌≡◌, ℕ, zero, suc, ◌+◌, ◌<◌, Bool,
 use Rattle.std.specs.Prelude.{slice_get, nat_lt, is_some, not, if◌then◌else◌}
 use Rattle.std.specs.Option.{option_map, option_and_then}
 use Rattle.std.specs.List.{position_or_len}
-use Rattle.std.proofs.lemmas.Bool.{lt-ltb}
+use Rattle.std.proofs.lemmas.Bool.{lt-ltb, le-ltb}
 use Rattle.il_values.specs.declared.op.Modifier.{Modifier}
 use Rattle.il_values.specs.declared.value.Value.{Value}
 use Rattle.il_values.specs.declared.value.Value.TheVariants as values
+use Rattle.il_values.specs.declared.value.Stop.{Stop}
 use Rattle.il_model.specs.declared.program.Instr.{Instr}
 use Rattle.il_model.specs.declared.program.Operand.{Operand}
 use Rattle.il_model.specs.declared.program.Operand.TheVariants as operands
@@ -22,10 +23,11 @@ use Rattle.ctl_model.specs.State.{State}
 use Rattle.ctl_model.specs.Step as steps
 use Rattle.ctl_model.specs.Step.{Outcome, with_value, truth_in, acts_on, acts, act, step}
 use Rattle.ctl_model.specs.Scan as scans
-use Rattle.ctl_model.specs.Runs.{Runs, Past, Ends as RunEnds, Stops, Steps, IsTurn}
-use Rattle.laws_calls.specs.Machines.{Machine, RunEnd, Done, Stopped, Turn, Next, Ends, Stuck, ComesIn, test, where_met, goes_to, performed, arrived}
+use Rattle.ctl_model.specs.Runs.{Runs, Past, UsedUp, Breaks, Ends as RunEnds, Stops, Steps, IsTurn}
+use Rattle.laws_calls.specs.Machines.{Machine, RunEnd, Done, Stopped, Turn, Next, Ends, Stuck, ComesIn, Comes, test, where_met, goes_to, performed, arrived}
 use Rattle.laws_calls.specs.Lines.{Control, Nothing, Jump, Return, Performs, control_of, turn_by, bears, from, line_step}
-use Rattle.laws_calls.specs.Controller.{at_start, without_code, deed, acted, controller, label_text, IsPerformed, SaysWords, SaysLine, SayAll, EndsAs, RunsAsItsLines, ScansAsItsCalls}
+use Rattle.laws_calls.specs.Controller.{at_start, without_code, deed, acted, controller, label_text, IsPerformed, SaysWords, SaysLine, SayAll, EndsAs, IsReached, RunsAsItsLines, ScansAsItsCalls}
+use Rattle.laws_calls.specs.Calls.{call_step, begun}
 use Rattle.laws_calls.specs.Laws.{expanded_lines}
 use Rattle.laws_calls.proofs.Made.{does_alike}
 use Rattle.laws_calls.proofs.Acts.{at_position, Shifted, shifted_act}
@@ -88,6 +90,24 @@ module _ (reads : List Word → Option Instr) (Q : Program) where
   targeted name (l ∷ ls) (i ∷ code) all r e =
       target_by name l ls i code (bears name l.label) (has_by name i l.label all.0.label) (λ (x : List Line) (f : from name ls ≡ Some x). targeted name ls code all.1 x f) r e
 
+-- a label that no line bears is none of the code
+module _ (reads : List Word → Option Instr) (Q : Program) where
+  absent_by : (name : List ℕ) (l : Line) (ls : List Line) (i : Instr) (code : List Instr) (b : Bool) → has_label name i ≡ b
+      → (from name ls ≡ None → position_or_len (has_label name) code ≡ length code)
+      → (if b then Some (l ∷ ls) else from name ls) ≡ None → position_or_len (has_label name) (i ∷ code) ≡ length (i ∷ code)
+  absent_by name l ls i code true is more e = absurd cc
+  absent_by name l ls i code false is more e = rw is (ap (λ (k : ℕ). 1 + k) (more e) ∙ one_more reads Q (length code))
+
+  absent : (name : List ℕ) (ls : List Line) (code : List Instr) → SayAll reads Q ls code → from name ls ≡ None → position_or_len (has_label name) code ≡ length code
+  absent name [] [] all e = refl
+  absent name [] (i ∷ code) all e = absurd all
+  absent name (l ∷ ls) [] all e = absurd all
+  absent name (l ∷ ls) (i ∷ code) all e =
+      absent_by name l ls i code (bears name l.label) (has_by reads Q name i l.label all.0.label) (λ (f : from name ls ≡ None). absent name ls code all.1 f) e
+
+no_position : (k m n : ℕ) → k ≡ m → (if nat_lt k m then Some k else None) ≡ Some n → ⊥
+no_position k m n same e = absurd (cc (sym (ap (λ (b : Bool). if b then Some k else None) (le-ltb k m (omega arith))) ∙ e))
+
 some_position : (b : Bool) (k n : ℕ) → (if b then Some k else None) ≡ Some n → k ≡ n
 some_position true k n e = cc
 some_position false k n e = absurd cc
@@ -143,7 +163,7 @@ module _ (reads : List Word → Option Instr) (Q : Program) (now : ℕ) (all : L
   Lock (Next rest t) (steps.Next s) = StandsAt rest t s
   Lock (Next rest t) (steps.End s) = (rest ≡ []) × (at_start s ≡ t)
   Lock (Ends (Stopped stop t)) (steps.Stopped other s) = (stop ≡ other) × (at_start s ≡ t)
-  Lock Stuck o = Unit {0}
+  Lock Stuck steps.Stuck = Unit {0}
   Lock turn o = ⊥
 
   -- ---- at a line
@@ -162,7 +182,7 @@ module _ (reads : List Word → Option Instr) (Q : Program) (now : ℕ) (all : L
         → Lock (where_met x (goes_to o t) (Next ls t)) (with_value x (λ (b : Bool). if b then steps.goes_to Q (at_position p t) n else steps.goes_on Q (at_position p t)))
     jump_lock None n o name e f = tt
     jump_lock (Some false) n o name e f = on
-    jump_lock (Some true) n None name e f = tt
+    jump_lock (Some true) n None name e f = absurd (no_position (position_or_len (has_label name) Q.code) (length Q.code) n (absent reads Q name all Q.code says e) f)
     jump_lock (Some true) n (Some r) name e f =
         let found = targeted reads Q name all Q.code says r e in
         comes_to found.0 r n t found.1 (sym (some_position (nat_lt (position_or_len (has_label name) Q.code) (length Q.code)) (position_or_len (has_label name) Q.code) n f) ∙ found.2) start
@@ -182,8 +202,14 @@ module _ (reads : List Word → Option Instr) (Q : Program) (now : ℕ) (all : L
     shifted_lock (steps.Stopped x a) (steps.Next b) h = absurd h
     shifted_lock (steps.Stopped x a) (steps.End b) h = absurd h
     shifted_lock (steps.Stopped x a) steps.Stuck h = absurd h
-    shifted_lock (steps.End a) b h = tt
-    shifted_lock steps.Stuck b h = tt
+    shifted_lock (steps.End a) (steps.Next b) h = absurd h
+    shifted_lock (steps.End a) (steps.End b) h = absurd h
+    shifted_lock (steps.End a) (steps.Stopped y b) h = absurd h
+    shifted_lock (steps.End a) steps.Stuck h = absurd h
+    shifted_lock steps.Stuck (steps.Next b) h = absurd h
+    shifted_lock steps.Stuck (steps.End b) h = absurd h
+    shifted_lock steps.Stuck (steps.Stopped y b) h = absurd h
+    shifted_lock steps.Stuck steps.Stuck h = tt
 
     same_op : (f : Fetched) (o : Option Source) → option_and_then (λ (src : Source). option_map (fetched_with i src) (passed_all Q (called_kind Q i.operand) i.arguments)) o ≡ Some f → f.op ≡ i.op
     same_op f None e = absurd cc
@@ -224,8 +250,8 @@ module _ (reads : List Word → Option Instr) (Q : Program) (now : ℕ) (all : L
 
   -- ---- a run
 
-  abbrev Comes : ℕ → ℕ → State → RunEnd State → Type 0
-  Comes budget performed s end = (r : scans.RunEnd) × Runs Q now [] budget performed s r × EndsAs end r
+  abbrev ScanComes : ℕ → ℕ → State → RunEnd State → Type 0
+  ScanComes budget performed s end = (r : scans.RunEnd) × Runs Q now [] budget performed s r × EndsAs end r
 
   within : (l : Line) (ls : List Line) (t s : State) → StandsAt (l ∷ ls) t s → s.position < length Q.code
   within l ls t s at =
@@ -237,7 +263,7 @@ module _ (reads : List Word → Option Instr) (Q : Program) (now : ℕ) (all : L
   turn_is l ls t s budget performed o at lt e = record { within = within l ls t s at; left = lt; unbroken = refl; outcome = e }
 
   last_by : (l : Line) (ls : List Line) (t s : State) (budget performed : ℕ) (end : RunEnd State) (turn : Turn (List Line) State) (o : Outcome) → StandsAt (l ∷ ls) t s → performed < budget
-      → turn ≡ Ends end → step Q now s ≡ o → Lock turn o → Comes budget performed s end
+      → turn ≡ Ends end → step Q now s ≡ o → Lock turn o → ScanComes budget performed s end
   last_by l ls t s budget performed end (Ends (Stopped stop u)) (steps.Stopped other v) at lt e f lock =
       let same : Stopped stop u ≡ end = cc in
       (scans.Stopped other v, Stops (turn_is l ls t s budget performed (steps.Stopped other v) at lt f), subst (λ (x : RunEnd State). EndsAs x (scans.Stopped other v)) same lock)
@@ -254,7 +280,7 @@ module _ (reads : List Word → Option Instr) (Q : Program) (now : ℕ) (all : L
 
   next_by : (l : Line) (ls : List Line) (t s : State) (budget performed n : ℕ) (end : RunEnd State) (rest : List Line) (u : State) (o : Outcome) → StandsAt (l ∷ ls) t s → performed < budget
       → step Q now s ≡ o → Lock (Next rest u) o → ComesIn (line_step M all) n rest u end
-      → ((v : State) → StandsAt rest u v → Comes budget (performed + 1) v end) → Comes budget performed s end
+      → ((v : State) → StandsAt rest u v → ScanComes budget (performed + 1) v end) → ScanComes budget performed s end
   next_by l ls t s budget performed n end rest u (steps.Next v) at lt f lock more onward =
       let r = onward v lock in (r.0, Steps (turn_is l ls t s budget performed (steps.Next v) at lt f) r.1, r.2)
   next_by l ls t s budget performed n end rest u (steps.End v) at lt f lock more onward =
@@ -263,7 +289,7 @@ module _ (reads : List Word → Option Instr) (Q : Program) (now : ℕ) (all : L
   next_by l ls t s budget performed n end rest u (steps.Stopped x v) at lt f lock more onward = absurd lock
   next_by l ls t s budget performed n end rest u steps.Stuck at lt f lock more onward = absurd lock
 
-  past : (t s : State) (budget performed : ℕ) → StandsAt [] t s → Comes budget performed s (Done t)
+  past : (t s : State) (budget performed : ℕ) → StandsAt [] t s → ScanComes budget performed s (Done t)
   past t s budget performed at =
       let e : length Q.code ≡ length all = same_length reads Q all Q.code says in
       let f : all ≡ at.before = at.parts ∙ append-nil at.before in
@@ -271,26 +297,89 @@ module _ (reads : List Word → Option Instr) (Q : Program) (now : ℕ) (all : L
       let h : s.position ≡ length at.before = ap (λ (x : State). x.position) at.there in
       (scans.Done s, Past (omega arith), ap at_start at.there ∙ at_start_is t at.start)
 
-  runs_as : (n : ℕ) (rest : List Line) (t s : State) (budget performed : ℕ) (end : RunEnd State) → StandsAt rest t s → ComesIn (line_step M all) n rest t end → n + performed < budget → Comes budget performed s end
-  runs_as n [] t s budget performed end at h lt = subst (λ (x : RunEnd State). Comes budget performed s x) (ends_empty n t end h) (past t s budget performed at)
+  runs_as : (n : ℕ) (rest : List Line) (t s : State) (budget performed : ℕ) (end : RunEnd State) → StandsAt rest t s → ComesIn (line_step M all) n rest t end → n + performed < budget → ScanComes budget performed s end
+  runs_as n [] t s budget performed end at h lt = subst (λ (x : RunEnd State). ScanComes budget performed s x) (ends_empty n t end h) (past t s budget performed at)
   runs_as zero (l ∷ ls) t s budget performed end at h lt = last_by l ls t s budget performed end (line_step M all (l ∷ ls) t) (step Q now s) at (omega arith) h refl (lock l ls t s at)
   runs_as (suc n) (l ∷ ls) t s budget performed end at h lt =
       next_by l ls t s budget performed n end h.0 h.1 (step Q now s) at (omega arith) refl
       (subst (λ (x : Turn (List Line) State). Lock x (step Q now s)) h.2 (lock l ls t s at)) h.3
       (λ (v : State) (there : StandsAt h.0 h.1 v). runs_as n h.0 h.1 v budget (performed + 1) end there h.3 (omega arith))
 
+  -- ---- and back
+
+  no_instruction : {X : Type 0} (t s : State) → StandsAt [] t s → s.position < length Q.code → X
+  no_instruction t s at lt =
+      let e : length Q.code ≡ length all = same_length reads Q all Q.code says in
+      let f : all ≡ at.before = at.parts ∙ append-nil at.before in
+      let g : length all ≡ length at.before = ap length f in
+      let h : s.position ≡ length at.before = ap (λ (x : State). x.position) at.there in
+      absurd (omega arith)
+
+  abbrev LinesCome : List Line → State → scans.RunEnd → Type 0
+  LinesCome rest t r = (end : RunEnd State) × ((n : ℕ) × ComesIn (line_step M all) n rest t end) × EndsAs end r
+
+  -- past the last line
+  done_so : (t s : State) → StandsAt [] t s → LinesCome [] t (scans.Done s)
+  done_so t s at = (Done t, (zero, refl), ap at_start at.there ∙ at_start_is t at.start)
+
+  ended_so : (rest : List Line) (t v : State) (turn : Turn (List Line) State) → line_step M all rest t ≡ turn → Lock turn (steps.End v) → LinesCome rest t (scans.Done v)
+  ended_so rest t v (Next after u) e lock =
+      (Done u, (suc zero, (after, u, e, ap (λ (ls : List Line). line_step M all ls u) lock.0)), lock.1)
+  ended_so rest t v (Ends (Done u)) e lock = absurd lock
+  ended_so rest t v (Ends (Stopped x u)) e lock = absurd lock
+  ended_so rest t v Stuck e lock = absurd lock
+
+  stopped_so : (rest : List Line) (t v : State) (stop : Stop) (turn : Turn (List Line) State) → line_step M all rest t ≡ turn → Lock turn (steps.Stopped stop v) → LinesCome rest t (scans.Stopped stop v)
+  stopped_so rest t v stop (Next after u) e lock = absurd lock
+  stopped_so rest t v stop (Ends (Done u)) e lock = absurd lock
+  stopped_so rest t v stop (Ends (Stopped x u)) e lock = (Stopped x u, (zero, e), lock)
+  stopped_so rest t v stop Stuck e lock = absurd lock
+
+  went_so : (rest : List Line) (t v : State) (r : scans.RunEnd) (turn : Turn (List Line) State) → line_step M all rest t ≡ turn → Lock turn (steps.Next v)
+      → ((after : List Line) (u : State) → StandsAt after u v → LinesCome after u r) → LinesCome rest t r
+  went_so rest t v r (Next after u) e lock onward = let more = onward after u lock in (more.0, (suc more.1.0, (after, u, e, more.1.1)), more.2)
+  went_so rest t v r (Ends (Done u)) e lock onward = absurd lock
+  went_so rest t v r (Ends (Stopped x u)) e lock onward = absurd lock
+  went_so rest t v r Stuck e lock onward = absurd lock
+
+  lock_at : (l : Line) (ls : List Line) (t s : State) (o : Outcome) → StandsAt (l ∷ ls) t s → step Q now s ≡ o → Lock (line_step M all (l ∷ ls) t) o
+  lock_at l ls t s o at e = subst (λ (x : Outcome). Lock (line_step M all (l ∷ ls) t) x) e (lock l ls t s at)
+
+  lines_come : (budget : ℕ) {performed : ℕ} {s : State} {r : scans.RunEnd} → Runs Q now [] budget performed s r → (rest : List Line) (t : State) → StandsAt rest t s → IsReached r → LinesCome rest t r
+  lines_come budget (Past {s = s} le) [] t at reached = done_so t s at
+  lines_come budget (Past {s = s} le) (l ∷ ls) t at reached = let lt = within l ls t s at in absurd (omega arith)
+  lines_come budget (UsedUp lt used) rest t at reached = absurd reached
+  lines_come budget (Breaks lt left is) rest t at reached = absurd (cc is)
+  lines_come budget (RunEnds {s = s} {t = v} turn) [] t at reached = no_instruction t s at turn.within
+  lines_come budget (RunEnds {s = s} {t = v} turn) (l ∷ ls) t at reached = ended_so (l ∷ ls) t v (line_step M all (l ∷ ls) t) refl (lock_at l ls t s (steps.End v) at turn.outcome)
+  lines_come budget (Stops {s = s} {t = v} {stop = x} turn) [] t at reached = no_instruction t s at turn.within
+  lines_come budget (Stops {s = s} {t = v} {stop = x} turn) (l ∷ ls) t at reached = stopped_so (l ∷ ls) t v x (line_step M all (l ∷ ls) t) refl (lock_at l ls t s (steps.Stopped x v) at turn.outcome)
+  lines_come budget (Steps {s = s} {t = v} {r = r} turn more) [] t at reached = no_instruction t s at turn.within
+  lines_come budget (Steps {s = s} {t = v} {r = r} turn more) (l ∷ ls) t at reached =
+      went_so (l ∷ ls) t v r (line_step M all (l ∷ ls) t) refl (lock_at l ls t s (steps.Next v) at turn.outcome)
+      (λ (after : List Line) (u : State) (there : StandsAt after u v). lines_come budget more after u there reached)
+
 -- ---- a scan
 
+first_arrived : (M : Machine State) (s : State) (o : Option Word) → ((t : State) → M.forgets t ≡ record t { cr = None }) → s.cr ≡ None → s.position ≡ 0 → at_position 0 (arrived M o s) ≡ s
+first_arrived M s None forgets none start = at_start_is s start
+first_arrived M s (Some w) forgets none start =
+    ap (at_position 0) (forgets s) ∙ ap (λ (c : Option Value). record s { position = 0; cr = c }) (sym none) ∙ at_start_is s start
+
 pub runs_as_its_lines : RunsAsItsLines
-runs_as_its_lines reads Q now budget ls s n end says none start h lt =
-    runs_as reads Q now ls says n ls s s budget 0 end
-    (record { before = []; parts = refl; there = sym (first_arrived (first_label ls)); start = start }) h (omega arith)
-  where
-    first_arrived : (o : Option Word) → at_position 0 (arrived (controller reads Q now) o s) ≡ s
-    first_arrived None = at_start_is s start
-    first_arrived (Some w) = ap (λ (c : Option Value). record s { position = 0; cr = c }) (sym none) ∙ at_start_is s start
+runs_as_its_lines reads Q now budget ls s says none start =
+    let at : StandsAt reads Q now ls says ls s s =
+    record { before = []; parts = refl; there = sym (first_arrived (controller reads Q now) s (first_label ls) (λ t. refl) none start); start = start } in (
+      (λ (n : ℕ) (end : RunEnd State) (h : ComesIn (line_step (controller reads Q now) ls) n ls s end) (lt : n < budget). runs_as reads Q now ls says n ls s s budget 0 end at h (omega arith)),
+      (λ (r : scans.RunEnd) (run : Runs Q now [] budget 0 s r) (reached : IsReached r). lines_come reads Q now ls says budget run ls s at reached),
+    )
 
 pub scans_as_its_calls : ScansAsItsCalls
-scans_as_its_calls reads Q now text above program s end all says none start comes =
-    let lines = (does_alike (controller reads Q now) text above program all s end).0 comes in
-    (lines.0, λ (budget : ℕ) (lt : lines.0 < budget). runs_as_its_lines reads Q now budget (expanded_lines text above program) s lines.0 end says none start lines.1 lt)
+scans_as_its_calls reads Q now text above program s all says none start = (
+  (λ (end : RunEnd State) (comes : Comes (call_step (controller reads Q now) text) (begun above program) s end).
+      let lines = (does_alike (controller reads Q now) text above program all s end).0 comes in
+      (lines.0, λ (budget : ℕ) (lt : lines.0 < budget). (runs_as_its_lines reads Q now budget (expanded_lines text above program) s says none start).0 lines.0 end lines.1 lt)),
+  (λ (budget : ℕ) (r : scans.RunEnd) (run : Runs Q now [] budget 0 s r) (reached : IsReached r).
+      let lines = (runs_as_its_lines reads Q now budget (expanded_lines text above program) s says none start).1 r run reached in
+      (lines.0, (does_alike (controller reads Q now) text above program all s lines.0).1 lines.1, lines.2)),
+)

@@ -5,6 +5,7 @@ use Rattle.std.specs.Option.{option_and_then}
 use Rattle.il_values.specs.declared.op.Op.{Op}
 use Rattle.il_values.specs.declared.op.Op.TheVariants as ops
 use Rattle.il_values.specs.declared.value.Stop.{Stop}
+use Rattle.il_values.specs.declared.value.Stop.TheVariants as stops
 use Rattle.il_model.specs.declared.program.Instr.{Instr}
 use Rattle.il_model.specs.declared.program.Operand.TheVariants as operands
 use Rattle.il_model.specs.declared.fetched.Fetched.{Fetched}
@@ -91,19 +92,28 @@ EndsAs (Done s) (scans.Done t) = at_start t ≡ s
 EndsAs (Stopped stop s) (scans.Stopped other t) = (stop ≡ other) × (at_start t ≡ s)
 EndsAs end r = ⊥
 
--- where the lines come to an end within the budget, the scan of the program that says them comes to that end, from any
--- state that a scan begins with
-abbrev pub RunsAsItsLines : Type 0
-RunsAsItsLines = (reads : List Word → Option Instr) (Q : Program) (now budget : ℕ) (ls : List Line) (s : State) (n : ℕ)
-    (end : RunEnd State) → SayAll reads Q ls Q.code → s.cr ≡ None → s.position ≡ 0
-    → ComesIn (line_step (controller reads Q now) ls) n ls s end → n < budget
-    → (r : scans.RunEnd) × Runs Q now [] budget 0 s r × EndsAs end r
+-- the budget didn't stop it
+abbrev pub IsReached : scans.RunEnd → Type 0
+IsReached (scans.Stopped stops.Budget s) = ⊥
+IsReached r = Unit {0}
 
--- where its instructions are the lines of a text's expansion, and the calls of the text come to an end, the scan of the
--- program comes to that end within every budget from some on
+-- From a state that a scan begins with: where the lines come to an end within the budget, the scan of the program that
+-- says them comes to that end; and where the scan comes to an end, the lines come to it.
+abbrev pub RunsAsItsLines : Type 0
+RunsAsItsLines = (reads : List Word → Option Instr) (Q : Program) (now budget : ℕ) (ls : List Line) (s : State)
+    → SayAll reads Q ls Q.code → s.cr ≡ None → s.position ≡ 0
+    → ((n : ℕ) (end : RunEnd State) → ComesIn (line_step (controller reads Q now) ls) n ls s end → n < budget
+    → (r : scans.RunEnd) × Runs Q now [] budget 0 s r × EndsAs end r)
+    × ((r : scans.RunEnd) → Runs Q now [] budget 0 s r → IsReached r
+    → (end : RunEnd State) × Comes (line_step (controller reads Q now) ls) ls s end × EndsAs end r)
+
+-- The same of the calls of a text, where the program's instructions are the lines of its expansion; the budget is to be
+-- over some number.
 abbrev pub ScansAsItsCalls : Type 0
 ScansAsItsCalls = (reads : List Word → Option Instr) (Q : Program) (now : ℕ) (text : List ℕ) (above : List UnitText)
-    (program : UnitText) (s : State) (end : RunEnd State) → AllByRecursion IsPlainUnit (above ++ program ∷ [])
+    (program : UnitText) (s : State) → AllByRecursion IsPlainUnit (above ++ program ∷ [])
     → SayAll reads Q (expanded_lines text above program) Q.code → s.cr ≡ None → s.position ≡ 0
-    → Comes (call_step (controller reads Q now) text) (begun above program) s end
-    → (n : ℕ) × ((budget : ℕ) → n < budget → (r : scans.RunEnd) × Runs Q now [] budget 0 s r × EndsAs end r)
+    → ((end : RunEnd State) → Comes (call_step (controller reads Q now) text) (begun above program) s end
+    → (n : ℕ) × ((budget : ℕ) → n < budget → (r : scans.RunEnd) × Runs Q now [] budget 0 s r × EndsAs end r))
+    × ((budget : ℕ) (r : scans.RunEnd) → Runs Q now [] budget 0 s r → IsReached r
+    → (end : RunEnd State) × Comes (call_step (controller reads Q now) text) (begun above program) s end × EndsAs end r)
