@@ -14,3 +14,4 @@ pub mod Made
 pub mod Acts
 pub mod Controlled
 pub mod WorkedCalls
+pub mod Faultless

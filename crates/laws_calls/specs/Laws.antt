@@ -7,7 +7,9 @@ use Rattle.il_reader.specs.Grammar.{BehindText, Target}
 use Rattle.il_units.specs.declared.word.Line.{Line}
 use Rattle.il_units.specs.Units.{UnitText, LineText, StepText, Operation, Function}
 use Rattle.il_units.specs.Words.{capitals}
+use Rattle.il_units.specs.Flats.{FlatUnit}
 use Rattle.il_units.specs.Expansion.{flat_of, flats_from}
+use Rattle.il_units.specs.Misuse.{fault_of}
 use Rattle.ctl_model.specs.State.{State}
 use Rattle.laws_calls.specs.Machines.{Machine, RunEnd, Comes}
 use Rattle.laws_calls.specs.Lines.{line_step}
@@ -41,6 +43,33 @@ pub record HasLabels (l : LineText) : Type 0 where
 pub record IsPlainUnit (u : UnitText) : Type 0 where
   pub lines : AllByRecursion HasLabels u.lines
   pub few : length u.lines < 2 ^ 64
+
+-- ---- what has such labels
+
+abbrev pub IsNoOperator : List ℕ → Type 0
+IsNoOperator name = (name ≡ codes "RET" → ⊥) × (name ≡ codes "CAL" → ⊥)
+
+abbrev pub LabelIsNoOperator : Option Token → Type 0
+LabelIsNoOperator None = Unit {0}
+LabelIsNoOperator (Some t) = IsNoOperator (capitals t.text)
+
+abbrev pub TargetIsNoOperator : BehindText → Type 0
+TargetIsNoOperator (Target t) = IsNoOperator (capitals t.text)
+TargetIsNoOperator behind = Unit {0}
+
+abbrev pub StepIsNoOperator : Option StepText → Type 0
+StepIsNoOperator None = Unit {0}
+StepIsNoOperator (Some (Operation o)) = TargetIsNoOperator o.behind
+StepIsNoOperator (Some (Function t xs)) = Unit {0}
+
+-- neither its label nor the target of its jump is an operator that the labels of calls are named after
+abbrev pub AreNoOperators : LineText → Type 0
+AreNoOperators l = LabelIsNoOperator l.label × StepIsNoOperator l.step
+
+-- a unit in which il_units finds no fault beside those above it, and none of whose labels is such an operator
+abbrev pub AFaultlessUnitIsPlain : Type 0
+AFaultlessUnitIsPlain = (text : List ℕ) (above : List FlatUnit) (unit : UnitText) → fault_of text above unit ≡ None
+    → AllByRecursion AreNoOperators unit.lines → length unit.lines < 2 ^ 64 → IsPlainUnit unit
 
 -- ---- the law
 

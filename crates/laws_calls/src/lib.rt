@@ -23,8 +23,14 @@
 //! more against an evaluator that calls.
 #![tactic(auto)]
 
-ghost use Rattle.laws_calls.specs.Laws.{ACallIsACall};
+ghost use Rattle.laws_calls.specs.Laws.{ACallIsACall, AFaultlessUnitIsPlain};
 ghost use Rattle.laws_calls.specs.Controller.{RunsAsItsLines, ScansAsItsCalls};
+
+/// What the laws ask of a unit holds where `il_units` finds no fault in it beside those above it, none of its labels is
+/// the word RET or CAL, and it has fewer lines than 2^64.
+pub fn a_faultless_unit_is_plain()
+    ensures { AFaultlessUnitIsPlain }
+{}
 
 /// A call is a call: the program of a text of units, run by its calls, and its expansion, run line by line, come to
 /// the same ends: done with the same values, or stopped for the same reason with the same values, and the one comes to
@@ -36,13 +42,15 @@ pub fn a_call_is_a_call()
 {}
 
 /// A program whose instructions are some lines, each read as an instruction in some way, runs as they do: where the
-/// lines come to an end within the budget, the controller's scan comes to that end.
+/// lines come to an end within the budget, the controller's scan comes to that end; and where the scan comes to an end
+/// that isn't its budget's, the lines come to it.
 pub fn a_scan_runs_as_its_lines()
     ensures { RunsAsItsLines }
 {}
 
 /// A program whose instructions are the lines of an expansion does as the calls of the text: where these come to an
-/// end, the controller's scan comes to that end, unless its budget is used up before.
+/// end, the controller's scan comes to that end, unless its budget is used up before; and where the scan comes to an
+/// end that isn't its budget's, the calls come to it.
 pub fn a_scan_does_as_its_calls()
     ensures { ScansAsItsCalls }
 {}

@@ -1,5 +1,4 @@
 use Rattle.laws_calls.proofs.Controlled.{runs_as_its_lines}
-use Rattle.laws_calls.proofs.WorkedCalls.{two_motors}
 use Rattle.laws_calls.proofs.a_scan_runs_as_its_lines.Goals as goal
 
 pub returns : goal.returns
