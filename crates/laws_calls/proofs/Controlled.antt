@@ -8,6 +8,11 @@ use Rattle.il_values.specs.declared.op.Modifier.{Modifier}
 use Rattle.il_values.specs.declared.value.Value.{Value}
 use Rattle.il_values.specs.declared.value.Value.TheVariants as values
 use Rattle.il_values.specs.declared.value.Stop.{Stop}
+use Rattle.il_values.specs.declared.value.Ty.{Ty}
+use Rattle.il_values.specs.Values.{ty_of}
+use Rattle.il_model.specs.Typing.{Shape, Arrives, IsTyped}
+use Rattle.ctl_model.specs.Suits.{Suits, IsSafe}
+use Rattle.ctl_model.proofs.NeverStuck.{never_stuck}
 use Rattle.il_model.specs.declared.program.Instr.{Instr}
 use Rattle.il_model.specs.declared.program.Operand.{Operand}
 use Rattle.il_model.specs.declared.program.Operand.TheVariants as operands
@@ -42,26 +47,27 @@ abbrev first_label : List Line → Option Word
 first_label [] = None
 first_label (l ∷ ls) = l.label
 
-module _ (reads : List Word → Option Instr) (Q : Program) where
-  said_at : (before : List Line) (l : Line) (ls : List Line) (code : List Instr) → SayAll reads Q (before ++ l ∷ ls) code → (i : Instr) × (slice_get code (length before) ≡ Some i) × SaysLine reads Q l i × (length before < length code)
-  said_at [] l ls [] all = absurd all
-  said_at [] l ls (i ∷ code) all = (i, refl, all.0, omega arith)
-  said_at (b ∷ before) l ls [] all = absurd all
-  said_at (b ∷ before) l ls (i ∷ code) all = let r = said_at before l ls code all.1 in (r.0, r.1, r.2, omega (arith, r.3))
+module _ (reads : Option Ty → List Word → Option Instr) (Q : Program) where
+  said_at : (n k : ℕ) (before : List Line) (l : Line) (ls : List Line) (code : List Instr) → n ≡ k + length before → SayAll reads Q k (before ++ l ∷ ls) code
+      → (i : Instr) × (slice_get code (length before) ≡ Some i) × SaysLine reads Q n l i × (length before < length code)
+  said_at n k [] l ls [] is all = absurd all
+  said_at n k [] l ls (i ∷ code) is all = (i, refl, subst (λ (j : ℕ). SaysLine reads Q j l i) (let e : k ≡ n = omega arith in e) all.0, omega arith)
+  said_at n k (b ∷ before) l ls [] is all = absurd all
+  said_at n k (b ∷ before) l ls (i ∷ code) is all = let r = said_at n (suc k) before l ls code (omega arith) all.1 in (r.0, r.1, r.2, omega (arith, r.3))
 
-  labelled_at : (before rest : List Line) (code : List Instr) → SayAll reads Q (before ++ rest) code → bears_label (slice_get code (length before)) ≡ is_some (first_label rest)
-  labelled_at [] [] [] all = refl
-  labelled_at [] [] (i ∷ code) all = absurd all
-  labelled_at [] (l ∷ ls) [] all = absurd all
-  labelled_at [] (l ∷ ls) (i ∷ code) all = ap is_some all.0.label ∙ some_label l.label
-  labelled_at (b ∷ before) rest [] all = absurd all
-  labelled_at (b ∷ before) rest (i ∷ code) all = labelled_at before rest code all.1
+  labelled_at : (k : ℕ) (before rest : List Line) (code : List Instr) → SayAll reads Q k (before ++ rest) code → bears_label (slice_get code (length before)) ≡ is_some (first_label rest)
+  labelled_at k [] [] [] all = refl
+  labelled_at k [] [] (i ∷ code) all = absurd all
+  labelled_at k [] (l ∷ ls) [] all = absurd all
+  labelled_at k [] (l ∷ ls) (i ∷ code) all = ap is_some all.0.label ∙ some_label l.label
+  labelled_at k (b ∷ before) rest [] all = absurd all
+  labelled_at k (b ∷ before) rest (i ∷ code) all = labelled_at (suc k) before rest code all.1
 
-  same_length : (ls : List Line) (code : List Instr) → SayAll reads Q ls code → length code ≡ length ls
-  same_length [] [] all = refl
-  same_length [] (i ∷ code) all = absurd all
-  same_length (l ∷ ls) [] all = absurd all
-  same_length (l ∷ ls) (i ∷ code) all = let r = same_length ls code all.1 in omega arith
+  same_length : (k : ℕ) (ls : List Line) (code : List Instr) → SayAll reads Q k ls code → length code ≡ length ls
+  same_length k [] [] all = refl
+  same_length k [] (i ∷ code) all = absurd all
+  same_length k (l ∷ ls) [] all = absurd all
+  same_length k (l ∷ ls) (i ∷ code) all = let r = same_length (suc k) ls code all.1 in omega arith
 
   -- ---- where a label stands
 
@@ -83,27 +89,27 @@ module _ (reads : List Word → Option Instr) (Q : Program) where
       let m = more r e in
       (l ∷ m.0, ap (λ (x : List Line). l ∷ x) m.1, rw is (ap (λ (k : ℕ). 1 + k) m.2 ∙ one_more (length m.0)))
 
-  targeted : (name : List ℕ) (ls : List Line) (code : List Instr) → SayAll reads Q ls code → (r : List Line) → from name ls ≡ Some r → IsTarget name ls code r
-  targeted name [] [] all r e = absurd cc
-  targeted name [] (i ∷ code) all r e = absurd all
-  targeted name (l ∷ ls) [] all r e = absurd all
-  targeted name (l ∷ ls) (i ∷ code) all r e =
-      target_by name l ls i code (bears name l.label) (has_by name i l.label all.0.label) (λ (x : List Line) (f : from name ls ≡ Some x). targeted name ls code all.1 x f) r e
+  targeted : (name : List ℕ) (k : ℕ) (ls : List Line) (code : List Instr) → SayAll reads Q k ls code → (r : List Line) → from name ls ≡ Some r → IsTarget name ls code r
+  targeted name k [] [] all r e = absurd cc
+  targeted name k [] (i ∷ code) all r e = absurd all
+  targeted name k (l ∷ ls) [] all r e = absurd all
+  targeted name k (l ∷ ls) (i ∷ code) all r e =
+      target_by name l ls i code (bears name l.label) (has_by name i l.label all.0.label) (λ (x : List Line) (f : from name ls ≡ Some x). targeted name (suc k) ls code all.1 x f) r e
 
 -- a label that no line bears is none of the code
-module _ (reads : List Word → Option Instr) (Q : Program) where
+module _ (reads : Option Ty → List Word → Option Instr) (Q : Program) where
   absent_by : (name : List ℕ) (l : Line) (ls : List Line) (i : Instr) (code : List Instr) (b : Bool) → has_label name i ≡ b
       → (from name ls ≡ None → position_or_len (has_label name) code ≡ length code)
       → (if b then Some (l ∷ ls) else from name ls) ≡ None → position_or_len (has_label name) (i ∷ code) ≡ length (i ∷ code)
   absent_by name l ls i code true is more e = absurd cc
   absent_by name l ls i code false is more e = rw is (ap (λ (k : ℕ). 1 + k) (more e) ∙ one_more reads Q (length code))
 
-  absent : (name : List ℕ) (ls : List Line) (code : List Instr) → SayAll reads Q ls code → from name ls ≡ None → position_or_len (has_label name) code ≡ length code
-  absent name [] [] all e = refl
-  absent name [] (i ∷ code) all e = absurd all
-  absent name (l ∷ ls) [] all e = absurd all
-  absent name (l ∷ ls) (i ∷ code) all e =
-      absent_by name l ls i code (bears name l.label) (has_by reads Q name i l.label all.0.label) (λ (f : from name ls ≡ None). absent name ls code all.1 f) e
+  absent : (name : List ℕ) (k : ℕ) (ls : List Line) (code : List Instr) → SayAll reads Q k ls code → from name ls ≡ None → position_or_len (has_label name) code ≡ length code
+  absent name k [] [] all e = refl
+  absent name k [] (i ∷ code) all e = absurd all
+  absent name k (l ∷ ls) [] all e = absurd all
+  absent name k (l ∷ ls) (i ∷ code) all e =
+      absent_by name l ls i code (bears name l.label) (has_by reads Q name i l.label all.0.label) (λ (f : from name ls ≡ None). absent name (suc k) ls code all.1 f) e
 
 no_position : (k m n : ℕ) → k ≡ m → (if nat_lt k m then Some k else None) ≡ Some n → ⊥
 no_position k m n same e = absurd (cc (sym (ap (λ (b : Bool). if b then Some k else None) (le-ltb k m (omega arith))) ∙ e))
@@ -128,7 +134,7 @@ acts_same true n (Some v) = truth_by n v
 at_start_is : (t : State) → t.position ≡ 0 → at_start t ≡ t
 at_start_is t e = ap (λ (n : ℕ). record t { position = n }) (sym e)
 
-module _ (reads : List Word → Option Instr) (Q : Program) (now : ℕ) (all : List Line) (says : SayAll reads Q all Q.code) where
+module _ (reads : Option Ty → List Word → Option Instr) (Q : Program) (now : ℕ) (all : List Line) (says : SayAll reads Q 0 all Q.code) (typed : IsTyped Q) where
   abbrev M : Machine State
   M = controller reads Q now
 
@@ -154,7 +160,7 @@ module _ (reads : List Word → Option Instr) (Q : Program) (now : ℕ) (all : L
     parts = parts;
     there =
         ap (λ (n : ℕ). record t { position = n; cr = if is_labelled Q n then None else t.cr }) number
-        ∙ ap (λ (b : Bool). record t { position = length before; cr = if b then None else t.cr }) (labelled_at reads Q before rest Q.code (subst (λ (ls : List Line). SayAll reads Q ls Q.code) parts says))
+        ∙ ap (λ (b : Bool). record t { position = length before; cr = if b then None else t.cr }) (labelled_at reads Q 0 before rest Q.code (subst (λ (ls : List Line). SayAll reads Q 0 ls Q.code) parts says))
         ∙ arrive_by (length before) t (first_label rest);
     start = start;
   }
@@ -168,7 +174,8 @@ module _ (reads : List Word → Option Instr) (Q : Program) (now : ℕ) (all : L
 
   -- ---- at a line
 
-  module _ (before : List Line) (l : Line) (ls : List Line) (parts : all ≡ before ++ l ∷ ls) (t : State) (start : t.position ≡ 0) (i : Instr) (is : SaysLine reads Q l i) where
+  module _ (before : List Line) (l : Line) (ls : List Line) (parts : all ≡ before ++ l ∷ ls) (t : State) (start : t.position ≡ 0) (i : Instr) (is : SaysLine reads Q (length before) l i)
+      (shape : Shape) (arrives : Arrives Q (length before) shape) (has : option_map ty_of t.cr ≡ shape.cr) where
     abbrev p : ℕ
     p = length before
 
@@ -182,9 +189,9 @@ module _ (reads : List Word → Option Instr) (Q : Program) (now : ℕ) (all : L
         → Lock (where_met x (goes_to o t) (Next ls t)) (with_value x (λ (b : Bool). if b then steps.goes_to Q (at_position p t) n else steps.goes_on Q (at_position p t)))
     jump_lock None n o name e f = tt
     jump_lock (Some false) n o name e f = on
-    jump_lock (Some true) n None name e f = absurd (no_position (position_or_len (has_label name) Q.code) (length Q.code) n (absent reads Q name all Q.code says e) f)
+    jump_lock (Some true) n None name e f = absurd (no_position (position_or_len (has_label name) Q.code) (length Q.code) n (absent reads Q name 0 all Q.code says e) f)
     jump_lock (Some true) n (Some r) name e f =
-        let found = targeted reads Q name all Q.code says r e in
+        let found = targeted reads Q name 0 all Q.code says r e in
         comes_to found.0 r n t found.1 (sym (some_position (nat_lt (position_or_len (has_label name) Q.code) (length Q.code)) (position_or_len (has_label name) Q.code) n f) ∙ found.2) start
 
     return_lock : (x : Option Bool) → Lock (where_met x (Next [] t) (Next ls t)) (with_value x (λ (b : Bool). if b then steps.End (at_position p t) else steps.goes_on Q (at_position p t)))
@@ -227,7 +234,7 @@ module _ (reads : List Word → Option Instr) (Q : Program) (now : ℕ) (all : L
     abbrev does : Option Fetched → Outcome
     does o = with_value o (λ (f : Fetched). act Q now (at_position p t) f.op f.modifier f.source f.arguments)
 
-    by_control : (c : Control) → SaysWords reads Q l.words c i → Lock (turn_by M c l.words (λ (name : List ℕ). from name all) [] ls t) (does (resolved_line Q i))
+    by_control : (c : Control) → SaysWords reads Q p l.words c i → Lock (turn_by M c l.words (λ (name : List ℕ). from name all) [] ls t) (does (resolved_line Q i))
     by_control Nothing w =
         rw (resolved operands.Absent sources.Absent w.1 w.2 refl, w.0) on
     by_control (Jump m name) w =
@@ -237,16 +244,24 @@ module _ (reads : List Word → Option Instr) (Q : Program) (now : ℕ) (all : L
         let e : acts i.modifier (at_position p t) ≡ test m (M.truth t) = ap (λ (x : Modifier). acts x (at_position p t)) w.1 ∙ acts_same m.conditional m.negated t.cr in
         rw (resolved operands.Absent sources.Absent w.2 w.3 refl, w.0, e) (return_lock (test m (M.truth t)))
     by_control Performs w =
-        rw w.1 (perform_lock (resolved_line Q i) (λ (f : Fetched) (e : resolved_line Q i ≡ Some f). subst IsPerformed (sym (same_op f (source_of Q i.operand) e)) w.0))
+        let read : reads (option_map ty_of t.cr) l.words ≡ Some (record i { label = None }) = ap (λ (c : Option Ty). reads c l.words) has ∙ w.1 shape arrives in
+        rw read (perform_lock (resolved_line Q i) (λ (f : Fetched) (e : resolved_line Q i ≡ Some f). subst IsPerformed (sym (same_op f (source_of Q i.operand) e)) w.0))
 
-  lock : (l : Line) (ls : List Line) (t s : State) → StandsAt (l ∷ ls) t s → Lock (line_step M all (l ∷ ls) t) (step Q now s)
-  lock l ls t s at =
-      let r = said_at reads Q at.before l ls Q.code (subst (λ (x : List Line). SayAll reads Q x Q.code) at.parts says) in
+  lock : (l : Line) (ls : List Line) (t s : State) → StandsAt (l ∷ ls) t s → Suits Q s → Lock (line_step M all (l ∷ ls) t) (step Q now s)
+  lock l ls t s at suits =
+      let r = said_at reads Q (length at.before) 0 at.before l ls Q.code (omega arith) (subst (λ (x : List Line). SayAll reads Q 0 x Q.code) at.parts says) in
       let t0 = arrived M l.label t in
       let here : step Q now s ≡ with_value (resolved_line Q r.0) (λ (f : Fetched). act Q now (at_position (length at.before) t0) f.op f.modifier f.source f.arguments) =
       ap (step Q now) at.there ∙ rw (lt-ltb (length at.before) (length Q.code) r.3, r.1) refl in
       subst (λ (o : Outcome). Lock (line_step M all (l ∷ ls) t) o) (sym here)
-      (by_control at.before l ls at.parts t0 (still l.label t at.start) r.0 r.2 (control_of l.words) r.2.words)
+      (by_control at.before l ls at.parts t0 (still l.label t at.start) r.0 r.2 suits.shape
+      (subst (λ (n : ℕ). Arrives Q n suits.shape) (ap (λ (x : State). x.position) at.there) suits.types)
+      (sym (ap (λ (x : State). option_map ty_of x.cr) at.there) ∙ suits.has.cr)
+      (control_of l.words) r.2.words)
+
+  -- what a step leaves suits the program
+  suits_next : (s v : State) → Suits Q s → step Q now s ≡ steps.Next v → Suits Q v
+  suits_next s v suits e = subst (λ (o : Outcome). IsSafe Q o) e (never_stuck Q now s typed suits)
 
   -- ---- a run
 
@@ -255,7 +270,7 @@ module _ (reads : List Word → Option Instr) (Q : Program) (now : ℕ) (all : L
 
   within : (l : Line) (ls : List Line) (t s : State) → StandsAt (l ∷ ls) t s → s.position < length Q.code
   within l ls t s at =
-      let r = said_at reads Q at.before l ls Q.code (subst (λ (x : List Line). SayAll reads Q x Q.code) at.parts says) in
+      let r = said_at reads Q (length at.before) 0 at.before l ls Q.code (omega arith) (subst (λ (x : List Line). SayAll reads Q 0 x Q.code) at.parts says) in
       let e : s.position ≡ length at.before = ap (λ (x : State). x.position) at.there in
       omega (arith, r.3)
 
@@ -280,9 +295,9 @@ module _ (reads : List Word → Option Instr) (Q : Program) (now : ℕ) (all : L
 
   next_by : (l : Line) (ls : List Line) (t s : State) (budget performed n : ℕ) (end : RunEnd State) (rest : List Line) (u : State) (o : Outcome) → StandsAt (l ∷ ls) t s → performed < budget
       → step Q now s ≡ o → Lock (Next rest u) o → ComesIn (line_step M all) n rest u end
-      → ((v : State) → StandsAt rest u v → ScanComes budget (performed + 1) v end) → ScanComes budget performed s end
+      → ((v : State) → step Q now s ≡ steps.Next v → StandsAt rest u v → ScanComes budget (performed + 1) v end) → ScanComes budget performed s end
   next_by l ls t s budget performed n end rest u (steps.Next v) at lt f lock more onward =
-      let r = onward v lock in (r.0, Steps (turn_is l ls t s budget performed (steps.Next v) at lt f) r.1, r.2)
+      let r = onward v f lock in (r.0, Steps (turn_is l ls t s budget performed (steps.Next v) at lt f) r.1, r.2)
   next_by l ls t s budget performed n end rest u (steps.End v) at lt f lock more onward =
       let same : Done u ≡ end = ends_empty n u end (subst (λ (x : List Line). ComesIn (line_step M all) n x u end) lock.0 more) in
       (scans.Done v, RunEnds (turn_is l ls t s budget performed (steps.End v) at lt f), subst (λ (x : RunEnd State). EndsAs x (scans.Done v)) same lock.1)
@@ -291,25 +306,25 @@ module _ (reads : List Word → Option Instr) (Q : Program) (now : ℕ) (all : L
 
   past : (t s : State) (budget performed : ℕ) → StandsAt [] t s → ScanComes budget performed s (Done t)
   past t s budget performed at =
-      let e : length Q.code ≡ length all = same_length reads Q all Q.code says in
+      let e : length Q.code ≡ length all = same_length reads Q 0 all Q.code says in
       let f : all ≡ at.before = at.parts ∙ append-nil at.before in
       let g : length all ≡ length at.before = ap length f in
       let h : s.position ≡ length at.before = ap (λ (x : State). x.position) at.there in
       (scans.Done s, Past (omega arith), ap at_start at.there ∙ at_start_is t at.start)
 
-  runs_as : (n : ℕ) (rest : List Line) (t s : State) (budget performed : ℕ) (end : RunEnd State) → StandsAt rest t s → ComesIn (line_step M all) n rest t end → n + performed < budget → ScanComes budget performed s end
-  runs_as n [] t s budget performed end at h lt = subst (λ (x : RunEnd State). ScanComes budget performed s x) (ends_empty n t end h) (past t s budget performed at)
-  runs_as zero (l ∷ ls) t s budget performed end at h lt = last_by l ls t s budget performed end (line_step M all (l ∷ ls) t) (step Q now s) at (omega arith) h refl (lock l ls t s at)
-  runs_as (suc n) (l ∷ ls) t s budget performed end at h lt =
+  runs_as : (n : ℕ) (rest : List Line) (t s : State) (budget performed : ℕ) (end : RunEnd State) → StandsAt rest t s → Suits Q s → ComesIn (line_step M all) n rest t end → n + performed < budget → ScanComes budget performed s end
+  runs_as n [] t s budget performed end at suits h lt = subst (λ (x : RunEnd State). ScanComes budget performed s x) (ends_empty n t end h) (past t s budget performed at)
+  runs_as zero (l ∷ ls) t s budget performed end at suits h lt = last_by l ls t s budget performed end (line_step M all (l ∷ ls) t) (step Q now s) at (omega arith) h refl (lock l ls t s at suits)
+  runs_as (suc n) (l ∷ ls) t s budget performed end at suits h lt =
       next_by l ls t s budget performed n end h.0 h.1 (step Q now s) at (omega arith) refl
-      (subst (λ (x : Turn (List Line) State). Lock x (step Q now s)) h.2 (lock l ls t s at)) h.3
-      (λ (v : State) (there : StandsAt h.0 h.1 v). runs_as n h.0 h.1 v budget (performed + 1) end there h.3 (omega arith))
+      (subst (λ (x : Turn (List Line) State). Lock x (step Q now s)) h.2 (lock l ls t s at suits)) h.3
+      (λ (v : State) (e : step Q now s ≡ steps.Next v) (there : StandsAt h.0 h.1 v). runs_as n h.0 h.1 v budget (performed + 1) end there (suits_next s v suits e) h.3 (omega arith))
 
   -- ---- and back
 
   no_instruction : {X : Type 0} (t s : State) → StandsAt [] t s → s.position < length Q.code → X
   no_instruction t s at lt =
-      let e : length Q.code ≡ length all = same_length reads Q all Q.code says in
+      let e : length Q.code ≡ length all = same_length reads Q 0 all Q.code says in
       let f : all ≡ at.before = at.parts ∙ append-nil at.before in
       let g : length all ≡ length at.before = ap length f in
       let h : s.position ≡ length at.before = ap (λ (x : State). x.position) at.there in
@@ -342,22 +357,22 @@ module _ (reads : List Word → Option Instr) (Q : Program) (now : ℕ) (all : L
   went_so rest t v r (Ends (Stopped x u)) e lock onward = absurd lock
   went_so rest t v r Stuck e lock onward = absurd lock
 
-  lock_at : (l : Line) (ls : List Line) (t s : State) (o : Outcome) → StandsAt (l ∷ ls) t s → step Q now s ≡ o → Lock (line_step M all (l ∷ ls) t) o
-  lock_at l ls t s o at e = subst (λ (x : Outcome). Lock (line_step M all (l ∷ ls) t) x) e (lock l ls t s at)
+  lock_at : (l : Line) (ls : List Line) (t s : State) (o : Outcome) → StandsAt (l ∷ ls) t s → Suits Q s → step Q now s ≡ o → Lock (line_step M all (l ∷ ls) t) o
+  lock_at l ls t s o at suits e = subst (λ (x : Outcome). Lock (line_step M all (l ∷ ls) t) x) e (lock l ls t s at suits)
 
-  lines_come : (budget : ℕ) {performed : ℕ} {s : State} {r : scans.RunEnd} → Runs Q now [] budget performed s r → (rest : List Line) (t : State) → StandsAt rest t s → IsReached r → LinesCome rest t r
-  lines_come budget (Past {s = s} le) [] t at reached = done_so t s at
-  lines_come budget (Past {s = s} le) (l ∷ ls) t at reached = let lt = within l ls t s at in absurd (omega arith)
-  lines_come budget (UsedUp lt used) rest t at reached = absurd reached
-  lines_come budget (Breaks lt left is) rest t at reached = absurd (cc is)
-  lines_come budget (RunEnds {s = s} {t = v} turn) [] t at reached = no_instruction t s at turn.within
-  lines_come budget (RunEnds {s = s} {t = v} turn) (l ∷ ls) t at reached = ended_so (l ∷ ls) t v (line_step M all (l ∷ ls) t) refl (lock_at l ls t s (steps.End v) at turn.outcome)
-  lines_come budget (Stops {s = s} {t = v} {stop = x} turn) [] t at reached = no_instruction t s at turn.within
-  lines_come budget (Stops {s = s} {t = v} {stop = x} turn) (l ∷ ls) t at reached = stopped_so (l ∷ ls) t v x (line_step M all (l ∷ ls) t) refl (lock_at l ls t s (steps.Stopped x v) at turn.outcome)
-  lines_come budget (Steps {s = s} {t = v} {r = r} turn more) [] t at reached = no_instruction t s at turn.within
-  lines_come budget (Steps {s = s} {t = v} {r = r} turn more) (l ∷ ls) t at reached =
-      went_so (l ∷ ls) t v r (line_step M all (l ∷ ls) t) refl (lock_at l ls t s (steps.Next v) at turn.outcome)
-      (λ (after : List Line) (u : State) (there : StandsAt after u v). lines_come budget more after u there reached)
+  lines_come : (budget : ℕ) {performed : ℕ} {s : State} {r : scans.RunEnd} → Runs Q now [] budget performed s r → (rest : List Line) (t : State) → StandsAt rest t s → Suits Q s → IsReached r → LinesCome rest t r
+  lines_come budget (Past {s = s} le) [] t at suits reached = done_so t s at
+  lines_come budget (Past {s = s} le) (l ∷ ls) t at suits reached = let lt = within l ls t s at in absurd (omega arith)
+  lines_come budget (UsedUp lt used) rest t at suits reached = absurd reached
+  lines_come budget (Breaks lt left is) rest t at suits reached = absurd (cc is)
+  lines_come budget (RunEnds {s = s} {t = v} turn) [] t at suits reached = no_instruction t s at turn.within
+  lines_come budget (RunEnds {s = s} {t = v} turn) (l ∷ ls) t at suits reached = ended_so (l ∷ ls) t v (line_step M all (l ∷ ls) t) refl (lock_at l ls t s (steps.End v) at suits turn.outcome)
+  lines_come budget (Stops {s = s} {t = v} {stop = x} turn) [] t at suits reached = no_instruction t s at turn.within
+  lines_come budget (Stops {s = s} {t = v} {stop = x} turn) (l ∷ ls) t at suits reached = stopped_so (l ∷ ls) t v x (line_step M all (l ∷ ls) t) refl (lock_at l ls t s (steps.Stopped x v) at suits turn.outcome)
+  lines_come budget (Steps {s = s} {t = v} {r = r} turn more) [] t at suits reached = no_instruction t s at turn.within
+  lines_come budget (Steps {s = s} {t = v} {r = r} turn more) (l ∷ ls) t at suits reached =
+      went_so (l ∷ ls) t v r (line_step M all (l ∷ ls) t) refl (lock_at l ls t s (steps.Next v) at suits turn.outcome)
+      (λ (after : List Line) (u : State) (there : StandsAt after u v). lines_come budget more after u there (suits_next s v suits turn.outcome) reached)
 
 -- ---- a scan
 
@@ -367,19 +382,19 @@ first_arrived M s (Some w) forgets none start =
     ap (at_position 0) (forgets s) ∙ ap (λ (c : Option Value). record s { position = 0; cr = c }) (sym none) ∙ at_start_is s start
 
 pub runs_as_its_lines : RunsAsItsLines
-runs_as_its_lines reads Q now budget ls s says none start =
-    let at : StandsAt reads Q now ls says ls s s =
+runs_as_its_lines reads Q now budget ls s typed suits says none start =
+    let at : StandsAt reads Q now ls says typed ls s s =
     record { before = []; parts = refl; there = sym (first_arrived (controller reads Q now) s (first_label ls) (λ t. refl) none start); start = start } in (
-      (λ (n : ℕ) (end : RunEnd State) (h : ComesIn (line_step (controller reads Q now) ls) n ls s end) (lt : n < budget). runs_as reads Q now ls says n ls s s budget 0 end at h (omega arith)),
-      (λ (r : scans.RunEnd) (run : Runs Q now [] budget 0 s r) (reached : IsReached r). lines_come reads Q now ls says budget run ls s at reached),
+      (λ (n : ℕ) (end : RunEnd State) (h : ComesIn (line_step (controller reads Q now) ls) n ls s end) (lt : n < budget). runs_as reads Q now ls says typed n ls s s budget 0 end at suits h (omega arith)),
+      (λ (r : scans.RunEnd) (run : Runs Q now [] budget 0 s r) (reached : IsReached r). lines_come reads Q now ls says typed budget run ls s at suits reached),
     )
 
 pub scans_as_its_calls : ScansAsItsCalls
-scans_as_its_calls reads Q now text above program s all says none start = (
+scans_as_its_calls reads Q now text above program s all typed suits says none start = (
   (λ (end : RunEnd State) (comes : Comes (call_step (controller reads Q now) text) (begun above program) s end).
       let lines = (does_alike (controller reads Q now) text above program all s end).0 comes in
-      (lines.0, λ (budget : ℕ) (lt : lines.0 < budget). (runs_as_its_lines reads Q now budget (expanded_lines text above program) s says none start).0 lines.0 end lines.1 lt)),
+      (lines.0, λ (budget : ℕ) (lt : lines.0 < budget). (runs_as_its_lines reads Q now budget (expanded_lines text above program) s typed suits says none start).0 lines.0 end lines.1 lt)),
   (λ (budget : ℕ) (r : scans.RunEnd) (run : Runs Q now [] budget 0 s r) (reached : IsReached r).
-      let lines = (runs_as_its_lines reads Q now budget (expanded_lines text above program) s says none start).1 r run reached in
+      let lines = (runs_as_its_lines reads Q now budget (expanded_lines text above program) s typed suits says none start).1 r run reached in
       (lines.0, (does_alike (controller reads Q now) text above program all s lines.0).1 lines.1, lines.2)),
 )

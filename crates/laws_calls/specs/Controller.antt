@@ -1,7 +1,11 @@
 -- The controller as a machine, and programs whose instructions are the lines of an expansion.
-use Rattle.std.specs.Prelude.{◌≡◌, ℕ, ◌<◌, Option, Some, None, List, [], ◌∷◌, ◌++◌, Result, Ok, Err}
+use Rattle.std.specs.Prelude.{◌≡◌, ℕ, suc, ◌<◌, Option, Some, None, List, [], ◌∷◌, ◌++◌, Result, Ok, Err}
 use Rattle.std.specs.List.{AllByRecursion}
-use Rattle.std.specs.Option.{option_and_then}
+use Rattle.std.specs.Option.{option_map, option_and_then}
+use Rattle.il_values.specs.declared.value.Ty.{Ty}
+use Rattle.il_values.specs.Values.{ty_of}
+use Rattle.il_model.specs.Typing.{Shape, Arrives, IsTyped}
+use Rattle.ctl_model.specs.Suits.{Suits}
 use Rattle.il_values.specs.declared.op.Op.{Op}
 use Rattle.il_values.specs.declared.op.Op.TheVariants as ops
 use Rattle.il_values.specs.declared.value.Stop.{Stop}
@@ -45,10 +49,11 @@ abbrev pub acted : Program → ℕ → State → Option Fetched → Option (Resu
 acted Q now s None = None
 acted Q now s (Some f) = deed (act (without_code Q) now s f.op f.modifier f.source f.arguments)
 
--- with the words read as instructions in some way, beside what a program declares, at the moment of a scan
-abbrev pub controller : (List Word → Option Instr) → Program → ℕ → Machine State
+-- With the words read as instructions in some way, beside what a program declares, at the moment of a scan. The reading
+-- may look at the type of the current result, of which a bare number is.
+abbrev pub controller : (Option Ty → List Word → Option Instr) → Program → ℕ → Machine State
 controller reads Q now = record {
-  does = λ ws s. acted Q now s (option_and_then (resolved_line Q) (reads ws));
+  does = λ ws s. acted Q now s (option_and_then (resolved_line Q) (reads (option_map ty_of s.cr) ws));
   truth = λ s. option_and_then truth_in s.cr;
   forgets = λ s. record s { cr = None };
 }
@@ -65,24 +70,27 @@ IsPerformed ops.Jmp = ⊥
 IsPerformed ops.Ret = ⊥
 IsPerformed op = Unit {0}
 
--- a label alone, a jump to a label that is there, a return, or what the words are read as
-abbrev pub SaysWords : (List Word → Option Instr) → Program → List Word → Control → Instr → Type 0
-SaysWords reads Q ws Nothing i = (i.op ≡ ops.Empty) × (i.operand ≡ operands.Absent) × (i.arguments ≡ [])
-SaysWords reads Q ws (Jump m name) i = (i.op ≡ ops.Jmp) × (i.modifier ≡ m) × (i.operand ≡ operands.Label name)
+-- a label alone, a jump to a label that is there, a return, or what the words are read as behind what comes to the k-th
+-- instruction
+abbrev pub SaysWords : (Option Ty → List Word → Option Instr) → Program → ℕ → List Word → Control → Instr → Type 0
+SaysWords reads Q k ws Nothing i = (i.op ≡ ops.Empty) × (i.operand ≡ operands.Absent) × (i.arguments ≡ [])
+SaysWords reads Q k ws (Jump m name) i = (i.op ≡ ops.Jmp) × (i.modifier ≡ m) × (i.operand ≡ operands.Label name)
     × (i.arguments ≡ []) × ((n : ℕ) × (target_of Q name ≡ Some n))
-SaysWords reads Q ws (Return m) i =
+SaysWords reads Q k ws (Return m) i =
     (i.op ≡ ops.Ret) × (i.modifier ≡ m) × (i.operand ≡ operands.Absent) × (i.arguments ≡ [])
-SaysWords reads Q ws Performs i = IsPerformed i.op × (reads ws ≡ Some (record i { label = None }))
+SaysWords reads Q k ws Performs i = IsPerformed i.op
+    × ((shape : Shape) → Arrives Q k shape → reads shape.cr ws ≡ Some (record i { label = None }))
 
-pub record SaysLine (reads : List Word → Option Instr) (Q : Program) (l : Line) (i : Instr) : Type 0 where
+pub record SaysLine (reads : Option Ty → List Word → Option Instr) (Q : Program) (k : ℕ) (l : Line) (i : Instr)
+    : Type 0 where
   pub label : i.label ≡ label_text l.label
-  pub words : SaysWords reads Q l.words (control_of l.words) i
+  pub words : SaysWords reads Q k l.words (control_of l.words) i
 
--- one by one
-abbrev pub SayAll : (List Word → Option Instr) → Program → List Line → List Instr → Type 0
-SayAll reads Q [] [] = Unit {0}
-SayAll reads Q (l ∷ ls) (i ∷ code) = SaysLine reads Q l i × SayAll reads Q ls code
-SayAll reads Q ls code = ⊥
+-- one by one, from the k-th on
+abbrev pub SayAll : (Option Ty → List Word → Option Instr) → Program → ℕ → List Line → List Instr → Type 0
+SayAll reads Q k [] [] = Unit {0}
+SayAll reads Q k (l ∷ ls) (i ∷ code) = SaysLine reads Q k l i × SayAll reads Q (suc k) ls code
+SayAll reads Q k ls code = ⊥
 
 -- ---- the laws
 
@@ -97,11 +105,11 @@ abbrev pub IsReached : scans.RunEnd → Type 0
 IsReached (scans.Stopped stops.Budget s) = ⊥
 IsReached r = Unit {0}
 
--- From a state that a scan begins with: where the lines come to an end within the budget, the scan of the program that
+-- Of a typed program, from a state that a scan begins with: where the lines come to an end within the budget, the scan of the program that
 -- says them comes to that end; and where the scan comes to an end, the lines come to it.
 abbrev pub RunsAsItsLines : Type 0
-RunsAsItsLines = (reads : List Word → Option Instr) (Q : Program) (now budget : ℕ) (ls : List Line) (s : State)
-    → SayAll reads Q ls Q.code → s.cr ≡ None → s.position ≡ 0
+RunsAsItsLines = (reads : Option Ty → List Word → Option Instr) (Q : Program) (now budget : ℕ) (ls : List Line) (s : State)
+    → IsTyped Q → Suits Q s → SayAll reads Q 0 ls Q.code → s.cr ≡ None → s.position ≡ 0
     → ((n : ℕ) (end : RunEnd State) → ComesIn (line_step (controller reads Q now) ls) n ls s end → n < budget
     → (r : scans.RunEnd) × Runs Q now [] budget 0 s r × EndsAs end r)
     × ((r : scans.RunEnd) → Runs Q now [] budget 0 s r → IsReached r
@@ -110,9 +118,10 @@ RunsAsItsLines = (reads : List Word → Option Instr) (Q : Program) (now budget 
 -- The same of the calls of a text, where the program's instructions are the lines of its expansion; the budget is to be
 -- over some number.
 abbrev pub ScansAsItsCalls : Type 0
-ScansAsItsCalls = (reads : List Word → Option Instr) (Q : Program) (now : ℕ) (text : List ℕ) (above : List UnitText)
+ScansAsItsCalls = (reads : Option Ty → List Word → Option Instr) (Q : Program) (now : ℕ) (text : List ℕ) (above : List UnitText)
     (program : UnitText) (s : State) → AllByRecursion IsPlainUnit (above ++ program ∷ [])
-    → SayAll reads Q (expanded_lines text above program) Q.code → s.cr ≡ None → s.position ≡ 0
+    → IsTyped Q → Suits Q s → SayAll reads Q 0 (expanded_lines text above program) Q.code → s.cr ≡ None
+    → s.position ≡ 0
     → ((end : RunEnd State) → Comes (call_step (controller reads Q now) text) (begun above program) s end
     → (n : ℕ) × ((budget : ℕ) → n < budget → (r : scans.RunEnd) × Runs Q now [] budget 0 s r × EndsAs end r))
     × ((budget : ℕ) (r : scans.RunEnd) → Runs Q now [] budget 0 s r → IsReached r

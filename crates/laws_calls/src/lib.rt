@@ -41,15 +41,15 @@ pub fn a_call_is_a_call()
     ensures { ACallIsACall }
 {}
 
-/// A program whose instructions are some lines, each read as an instruction in some way, runs as they do: where the
-/// lines come to an end within the budget, the controller's scan comes to that end; and where the scan comes to an end
-/// that isn't its budget's, the lines come to it.
+/// A typed program whose instructions are some lines, each read as an instruction in some way that may look at the type
+/// of the current result, runs as they do: where the lines come to an end within the budget, the controller's scan
+/// comes to that end; and where the scan comes to an end that isn't its budget's, the lines come to it.
 pub fn a_scan_runs_as_its_lines()
     ensures { RunsAsItsLines }
 {}
 
-/// A program whose instructions are the lines of an expansion does as the calls of the text: where these come to an
-/// end, the controller's scan comes to that end, unless its budget is used up before; and where the scan comes to an
+/// A typed program whose instructions are the lines of an expansion does as the calls of the text: where these come to
+/// an end, the controller's scan comes to that end, unless its budget is used up before; and where the scan comes to an
 /// end that isn't its budget's, the calls come to it.
 pub fn a_scan_does_as_its_calls()
     ensures { ScansAsItsCalls }
