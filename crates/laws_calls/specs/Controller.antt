@@ -105,10 +105,11 @@ abbrev pub IsReached : scans.RunEnd → Type 0
 IsReached (scans.Stopped stops.Budget s) = ⊥
 IsReached r = Unit {0}
 
--- Of a typed program, from a state that a scan begins with: where the lines come to an end within the budget, the scan of the program that
--- says them comes to that end; and where the scan comes to an end, the lines come to it.
+-- Of a typed program, from a state that a scan begins with: where the lines come to an end within the budget, the scan
+-- of the program that says them comes to that end; and where the scan comes to an end, the lines come to it.
 abbrev pub RunsAsItsLines : Type 0
-RunsAsItsLines = (reads : Option Ty → List Word → Option Instr) (Q : Program) (now budget : ℕ) (ls : List Line) (s : State)
+RunsAsItsLines = (reads : Option Ty → List Word → Option Instr) (Q : Program) (now budget : ℕ) (ls : List Line)
+    (s : State)
     → IsTyped Q → Suits Q s → SayAll reads Q 0 ls Q.code → s.cr ≡ None → s.position ≡ 0
     → ((n : ℕ) (end : RunEnd State) → ComesIn (line_step (controller reads Q now) ls) n ls s end → n < budget
     → (r : scans.RunEnd) × Runs Q now [] budget 0 s r × EndsAs end r)
@@ -118,8 +119,8 @@ RunsAsItsLines = (reads : Option Ty → List Word → Option Instr) (Q : Program
 -- The same of the calls of a text, where the program's instructions are the lines of its expansion; the budget is to be
 -- over some number.
 abbrev pub ScansAsItsCalls : Type 0
-ScansAsItsCalls = (reads : Option Ty → List Word → Option Instr) (Q : Program) (now : ℕ) (text : List ℕ) (above : List UnitText)
-    (program : UnitText) (s : State) → AllByRecursion IsPlainUnit (above ++ program ∷ [])
+ScansAsItsCalls = (reads : Option Ty → List Word → Option Instr) (Q : Program) (now : ℕ) (text : List ℕ)
+    (above : List UnitText) (program : UnitText) (s : State) → AllByRecursion IsPlainUnit (above ++ program ∷ [])
     → IsTyped Q → Suits Q s → SayAll reads Q 0 (expanded_lines text above program) Q.code → s.cr ≡ None
     → s.position ≡ 0
     → ((end : RunEnd State) → Comes (call_step (controller reads Q now) text) (begun above program) s end
