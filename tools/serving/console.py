@@ -9,8 +9,8 @@ from controller import PATIENCE, Served, came_true, ended, free_port, is_closed,
 # Counts up %IW0: 32767 stops it at instruction 1, and 2 is behind the sum.
 SOURCE = 'LD %IW0\nADD 1\nST %QW0\n'
 
-# What it's changed to. Of its instructions four are performed; behind them come so many more that its image has 4 kB.
-SECOND = 'VAR N : INT := 10; END_VAR\nLD N\nADD 1\nST %QW0\nRET\n' + 1000 * 'LD N\n'
+# What it's changed to. Of its instructions four are performed; behind them come so many more that its image has 60 kB.
+SECOND = 'VAR_GLOBAL N : INT := 10; END_VAR\nLD N\nADD 1\nST %QW0\nRET\n' + 15000 * 'LD N\n'
 
 # An image with the variable N.
 IMAGE = '494C5043000100010000000000000003014E01FFFF0000000A010014000900400002001400'
@@ -66,8 +66,8 @@ GOES_ON = 'console continue'
 BAD_LINES = b'{\n"stop"\n"cr"\n{"scan":{"ix":[],"iw":[],"moment":0}}\n"\xff"\n"cr"\n\n"cr"\n'
 BAD_ANSWERS = 2 * (2 * b'plc: commands\n' + b'refused 1\n') + b'plc: commands\nrefused 1\n'
 
-LONGEST = 131072        # bytes of a line
-IMAGE_BYTES = 32768     # of the longest image that a change may have
+LONGEST, LONGEST_CHANGE = 131072, 2105344   # bytes of a line, and of one of a change to a long image
+SHORT_IMAGE, LONG_IMAGE = 32768, 1048576    # of the longest images that the two spellings of a change have
 
 # What ends a session, and what the client is told then: a browser's request with a command behind its head, as `fetch`
 # and a form send it; a field of a head alone, behind a command; three lines in a row that are no command.
@@ -121,7 +121,7 @@ def is_asked(plc, work, served, console):
     first, second = Operator(console), image_of(plc, work, SECOND)
     right = first.is_answered(STOPS) and served.says('stopped overflow 1') and first.is_answered(RESETS)
     right = right and served.says('held 1') and first.is_answered(HOLDS)
-    right = right and first.is_answered([(f'{{"change": "{second}"}}', 'done'), *CHANGED]) and served.says('held 3')
+    right = right and first.is_answered([(f'{{"long_change":"{second}"}}', 'done'), *CHANGED]) and served.says('held 3')
     first.close()
     later = Operator(console)
     right = right and later.is_answered(LATER) and served.says(GOES_ON, times=2)
@@ -131,7 +131,7 @@ def is_asked(plc, work, served, console):
 
 def an_operator_is_answered(plc, work):
     """The plant stops for a forced input, the operator asks why, and a reset brings it back; a scan is held, goes on by
-    a step, and is continued; the program is changed to one of 4 kB, whose names are those of the session, and of the
+    a step, and is continued; the program is changed to one of 60 kB, whose names are those of the session, and of the
     next one. All that was done is told, once each."""
     console = free_port()
     with Served(plc, work, '--period', 100, '--console', console, source=SOURCE) as served:
@@ -158,10 +158,25 @@ def is_line_answered(stream, front, filled, behind, answer):
     return take(stream, len(answer)) == answer
 
 
+def long_lines():
+    """What a line begins with, is filled with and ends with, and its answer: the longest line and the longest images are
+    taken, a byte more isn't, and neither is a long line with a comma, or one that begins otherwise."""
+    spaces, short, long = b' ' * (LONGEST - 4), b'00' * SHORT_IMAGE, b'00' * LONG_IMAGE
+    change, commands, image = b'{"long_change":"', b'plc: commands\n', b'refused 6\n'
+    blanks = b' ' * (LONGEST_CHANGE - len(change) - len(long) - 2)
+    return [(b'', spaces, b'"cr"\n', b'refused 1\n'), (b' ', spaces, b'"cr"\n', commands),
+            (b'{"change":"', short, b'"}\n', image), (b'{"change":"00', short, b'"}\n', commands),
+            (change + b'00', short, b'"}\n', image), (change, short, b'"}\n', commands),
+            (change, long, b'"' + blanks + b'}\n', image), (change, long, b'"' + blanks + b' }\n', commands),
+            (change, long, b'"}\n', image), (change + b'00', long, b'"}\n', commands),
+            (change, 3 * short, b'"}\n', image), (b' ' + change, 3 * short, b'"}\n', commands),
+            (change, 3 * short, b'","read":"N"}\n', commands), (b'', b'', b'"cr"\n', b'refused 1\n'),
+            (b'[', b'0,' * LONGEST, b'0]\n', commands)]
+
+
 def no_commands_are_refused(plc, work):
-    """Lines that are no command are answered as such, and others behind them as ever. The longest line and the longest
-    image are taken, a byte more isn't. Three such lines in a row, and what a browser sends, end a session, and nothing
-    behind them is done."""
+    """Lines that are no command are answered as such, and others behind them as ever. Three such lines in a row, and
+    what a browser sends, end a session, and nothing behind them is done."""
     console = free_port()
     with Served(plc, work, '--period', 100, '--console', console, source=SOURCE) as served:
         right = served.serves()
@@ -172,11 +187,7 @@ def no_commands_are_refused(plc, work):
         with connection(console) as stream:
             stream.sendall(BAD_LINES)
             right = right and take(stream, len(BAD_ANSWERS)) == BAD_ANSWERS
-            spaces, digits = b' ' * (LONGEST - 4), b'00' * IMAGE_BYTES
-            right = right and is_line_answered(stream, b'', spaces, b'"cr"\n', b'refused 1\n')
-            right = right and is_line_answered(stream, b' ', spaces, b'"cr"\n', b'plc: commands\n')
-            right = right and is_line_answered(stream, b'{"change":"', digits, b'"}\n', b'refused 6\n')
-            right = right and is_line_answered(stream, b'{"change":"00', digits, b'"}\n', b'plc: commands\n')
+            right = right and all(is_line_answered(stream, *line) for line in long_lines())
             stream.sendall(b'"forces"\n')
             right = right and take(stream, 7) == b'forces\n'
         right = right and served.says('console refused', times=len(ENDS))

@@ -83,25 +83,33 @@ def a_store_is_made_once(plc, work):
         return right
 
 
+def long_source(text):
+    """The program with so many instructions behind its end that its image has 60 kB."""
+    return source(text).replace('VAR', 'VAR_GLOBAL', 1) + 'RET\n' + 15000 * 'LD 1\n'
+
+
 def epoch_of(plc, store):
     return next(line for line in ended(plc, 'show', store)[1].splitlines() if line.startswith('epoch '))
 
 
 def an_epoch_begins_without_the_view_before(plc, work):
-    """A console has changed the program, and all machines have ended: an operator puts them into the next epoch, which
-    needs a word on which program it is. It begins with none of what was kept of the one before."""
+    """A console has changed the program to a long one, which a machine has, too, that starts then, and all have ended: an
+    operator puts two of them into the next epoch, which needs a word on which program it is. It begins with none of what
+    was kept of the one before."""
     with Patient(plc, work) as group:
         group.start(0, 1)
         right = group.says(0, 'driving view 0') and group.says(1, 'replica normal')
         console = ':'.join(map(str, group.network.console(0)))
         other = os.path.join(work, 'other.il')
         with open(other, 'w') as file:
-            file.write(source(2))
+            file.write(long_source(2))
         right = right and came_true(lambda: ended(plc, 'ask', console, '--change', other)[:2] == (0, 'done\n'))
-        for machine in (0, 1):
+        group.start(2)
+        right = right and group.says(2, 'replica normal')
+        for machine in (0, 1, 2):
             changed = os.path.join(group.store(machine), 'changed')
-            right = right and came_true(lambda: os.path.exists(changed))
-        for machine in (0, 1):
+            right = right and came_true(lambda: os.path.exists(changed) and os.path.getsize(changed) > 60000)
+        for machine in (0, 1, 2):
             group.end(machine)
         for machine in (0, 1):
             own = ('format', '--next-epoch', '--group', group.file(machine), '--store', group.store(machine))

@@ -3,7 +3,8 @@ in one list, each with the inputs that a client wrote at once, and each reply fr
 before.
 
 Each client writes the same value to 64 words, by one request, reads them back, and reads the outputs: 63 words that
-mirror the inputs, and the count of scans. Each value is written once, so a word tells by which request it came."""
+mirror the inputs, and the count of scans. Each value is written once, so a word tells by which request it came; none
+tells of a write that was refused."""
 import bisect
 import json
 import math
@@ -145,8 +146,10 @@ class Client(threading.Thread):
     def go_round(self, value):
         written = bytes([0, 0, 0, 0, 0, 135, 1, 16, 0, 0, 0, 64, 128]) + 64 * value.to_bytes(2, 'big')
         self.writes.append(Write(time.monotonic(), math.inf, value))
-        reply_to(self.stream, written)
-        self.writes[-1] = self.writes[-1]._replace(ended=time.monotonic())
+        if reply_to(self.stream, written)[7] == 16:
+            self.writes[-1] = self.writes[-1]._replace(ended=time.monotonic())
+        else:
+            self.writes.pop()       # refused: 4096 writes have come since the last scan, which waits for a new primary
         for function, of, kept in ((3, Read, self.reads), (4, Shown, self.outputs)):
             begun = time.monotonic()
             got = tuple(words(self.stream, function, 64))

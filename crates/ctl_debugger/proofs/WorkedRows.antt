@@ -229,7 +229,7 @@ does op operand letters form is some = record { label = λ name e. absurd cc; le
 
 counting_is : IsWellFormed (counting 10)
 counting_is = record {
-  small = record { variables = (let le : 1 ≤ 512 = omega arith in le); instances = (let le : 0 ≤ 128 = omega arith in le); code = (let le : 4 ≤ 4096 = omega arith in le) };
+  small = record { variables = (let le : 1 ≤ 4096 = omega arith in le); instances = (let le : 0 ≤ 1024 = omega arith in le); code = (let le : 4 ≤ 16384 = omega arith in le); words = refl };
   variables = (record { name = n_named; type = refl; range = refl; location = λ loc e. absurd cc }, tt);
   instances = tt;
   names = (tt, tt);

@@ -1,8 +1,9 @@
 //! Whether a snapshot fits an image and a budget.
 
-ghost use Rattle.std.specs.Prelude.{◌≡◌};
+ghost use Rattle.std.specs.Prelude.{◌≡◌, ◌&&◌, bytes_eq, length};
 ghost use Rattle.ctl_model.specs.Commands.{forcible_at};
 ghost use Rattle.ctl_model.specs.Snapshots.{fit_breaks, fits_location, fit_forces, is_at_rest, fits_phase, fits};
+ghost use Rattle.il_model.specs.Image.{spelling};
 ghost use Rattle.ctl_debugger.specs.Restored.{CanRestore};
 
 use crate::controller::forcible_at;
@@ -71,16 +72,30 @@ fn fits_phase(image: &Image, budget: Budget, snapshot: &Snapshot) -> bool
     }
 }
 
+fn begins_with(image: &Image, snapshot: &Snapshot) -> bool
+    ensures { result ≡ bytes_eq snapshot.now.image (spelling image.now) }
+{
+    snapshot.image.as_slice() == image.bytes()
+}
+
+/// Whether breakpoints, forces and an open scan are those of a controller of this image and this budget.
+fn fits_debugging(image: &Image, budget: Budget, snapshot: &Snapshot) -> bool
+    ensures { result ≡ (fit_breaks (length image.now.code) snapshot.now.breaks && (fit_forces snapshot.now.forces
+        && fits_phase image.now budget.instructions snapshot.now snapshot.now.phase)) }
+{
+    fit_breaks(snapshot.breaks.as_slice(), image.len())
+        && fit_forces(snapshot.forces.as_slice())
+        && fits_phase(image, budget, snapshot)
+}
+
 /// Whether a snapshot begins with this image and is of a controller of it with this budget, the words of its blocks
 /// aside.
 pub fn fits(image: &Image, budget: Budget, snapshot: &Snapshot) -> bool
     ensures { result ≡ fits image.now budget.instructions snapshot.now }
 {
-    snapshot.image.as_slice() == image.bytes()
+    begins_with(image, snapshot)
         && fits_values(image, snapshot)
-        && fit_breaks(snapshot.breaks.as_slice(), image.len())
-        && fit_forces(snapshot.forces.as_slice())
-        && fits_phase(image, budget, snapshot)
+        && fits_debugging(image, budget, snapshot)
 }
 
 /// Whether a snapshot is one of a controller of this image and this budget, as `Controller::restore` judges it: then

@@ -1,6 +1,6 @@
 -- A change carries over what goes on, and leaves a state that suits the new program.
-use Rattle.std.proofs.Common.{◌≡◌, ℕ, zero, suc, Bool, true, false, List, [], ◌∷◌, ◌++◌, length, map, Option, Some, None, refl, sym, ap, subst, ◌∙◌, arith}
-use Rattle.std.specs.Prelude.{slice_get, unwrap_or, is_none, position}
+use Rattle.std.proofs.Common.{◌≡◌, ℕ, zero, suc, Bool, true, false, cond, List, [], ◌∷◌, ◌++◌, length, map, Option, Some, None, refl, sym, ap, subst, ◌∙◌, arith}
+use Rattle.std.specs.Prelude.{slice_get, unwrap_or, is_none, is_some, position, if◌then◌else◌}
 use Rattle.std.specs.Option.{option_map, option_and_then}
 use Rattle.std.proofs.lemmas.Bool.{eq-eqb}
 use Rattle.std.proofs.lemmas.List.{length-map}
@@ -21,8 +21,8 @@ use Rattle.il_model.proofs.RowTypes.{and_yes, same_type_is}
 use Rattle.il_model.proofs.Positions.{position_first, position_later}
 use Rattle.ctl_model.specs.State.{State, BlockInstance, has_own, cold_instance}
 use Rattle.ctl_model.specs.Suits.{KeepFirsts, HasValues, Suits, IsInstanceOf, AreInstances}
-use Rattle.ctl_model.specs.Changes.{GoesOn, GoesOnAs, goes_on, goes_on_as, kept_by, kept_value, kept_instance, carried_value, carried_instance, carried_state, CarriesOver}
-use Rattle.ctl_model.proofs.Apart.{variables_apart, instances_apart}
+use Rattle.ctl_model.specs.Changes.{GoesOn, GoesOnAs, goes_on, goes_on_as, kept_by, kept_value, kept_instance, placed_by, carried_value, carried_instance, carried_state, CarriesOver}
+use Rattle.ctl_model.proofs.Apart.{absent, variables_apart, instances_apart}
 use Rattle.ctl_model.proofs.ColdSuits.{variable_ty, at_start}
 use Rattle.ctl_model.proofs.Instances.{cold_is}
 use Rattle.ctl_model.proofs.Fitting.{and_both, same_type_self, kind_same}
@@ -100,6 +100,46 @@ passes_by p z xs k false e h more = passes_later p z xs k (position p xs) refl (
 passes_at : {X : Type 0} (p : X → Bool) (xs : List X) (k : ℕ) → position p xs ≡ Some k → PassesAt p xs k
 passes_at p [] k h = absurd cc
 passes_at p (z ∷ xs) k h = passes_by p z xs k (p z) refl h (λ j e. passes_at p xs j e)
+
+-- ---- what is found by its name
+
+abbrev StandsOnce : {X : Type 0} → (X → Bool) → List X → Type 0
+StandsOnce {X = X} p xs = (k i : ℕ) (y x : X) → slice_get xs k ≡ Some y → slice_get xs i ≡ Some x → p y ≡ true → p x ≡ true → k ≡ i
+
+placed_at : {X : Type 0} (p q : X → Bool) (xs : List X) (i : ℕ) (x : X) (b : Bool) → ((z : X) → q z ≡ true → p z ≡ true) → StandsOnce p xs → slice_get xs i ≡ Some x → p x ≡ true → q x ≡ b → cond b (Some i) None ≡ position q xs
+placed_at p q xs i x true narrower once there e f = sym (found_at q xs i x there f (λ k z at g. once k i z x at there (narrower z g) e))
+placed_at p q xs i x false narrower once there e f =
+    sym (found_nowhere q xs (λ k z at. false_by (q z) (λ g.
+    let same = once k i z x at there (narrower z g) e in
+    let is : Some z ≡ Some x = sym at ∙ ap (slice_get xs) same ∙ there in
+    let here : z ≡ x = cc in
+    let yes = ap q (sym here) ∙ g in
+    no_truth (sym f ∙ yes))))
+  where
+    no_truth : false ≡ true → ⊥
+    no_truth h = cc
+
+placed_some : {X : Type 0} (p q : X → Bool) (xs : List X) (o : Option ℕ) → position p xs ≡ o → ((z : X) → q z ≡ true → p z ≡ true) → StandsOnce p xs → placed_by q xs o ≡ position q xs
+placed_some p q xs None e narrower once =
+    sym (found_nowhere q xs (λ k z at. false_by (q z) (λ f. (let no = absent p xs k z (ap is_some e) at in let yes = narrower z f in no_truth (sym no ∙ yes)))))
+  where
+    no_truth : false ≡ true → ⊥
+    no_truth h = cc
+placed_some p q xs (Some i) e narrower once =
+    let r = passes_at p xs i e in
+    ap (option_and_then (λ x. if q x then Some i else None)) r.there ∙ placed_at p q xs i r.item (q r.item) narrower once r.there r.passes refl
+
+pub variable_placed : (us : List Variable) (v : Variable) → AreItems IsVariable [] us → placed_by (λ u. goes_on u v) us (position (λ (u : Variable). same_name u.name v.name) us) ≡ position (λ u. goes_on u v) us
+variable_placed us v are =
+    placed_some (λ (u : Variable). same_name u.name v.name) (λ u. goes_on u v) us (position (λ (u : Variable). same_name u.name v.name) us) refl
+    (λ u e. (and_yes (same_name u.name v.name) _ e).0)
+    (λ k i y x at there e f. variables_apart us are k i y x at there ((bytes_eq-Decides y.name v.name).0 e ∙ sym ((bytes_eq-Decides x.name v.name).0 f)))
+
+pub instance_placed : (vs : List Variable) (xs : List Instance) (y : Instance) → AreItems (IsInstance vs) [] xs → placed_by (λ x. goes_on_as x y) xs (position (λ (x : Instance). same_name x.name y.name) xs) ≡ position (λ x. goes_on_as x y) xs
+instance_placed vs xs y are =
+    placed_some (λ (x : Instance). same_name x.name y.name) (λ x. goes_on_as x y) xs (position (λ (x : Instance). same_name x.name y.name) xs) refl
+    (λ x e. (and_yes (same_name x.name y.name) _ e).0)
+    (λ k i z x at there e f. instances_apart vs xs are k i z x at there ((bytes_eq-Decides z.name y.name).0 e ∙ sym ((bytes_eq-Decides x.name y.name).0 f)))
 
 -- what stands beside something stands beside one that passes
 pub record StandsBeside {X Y : Type 0} (p : X → Bool) (xs : List X) (ys : List Y) (y : Y) : Type 0 where

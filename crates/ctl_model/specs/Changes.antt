@@ -1,7 +1,7 @@
 -- What a change of the program carries over: values by the names of variables, inputs and states by the names of
 -- instances.
 use Rattle.std.specs.Prelude.{◌≡◌, ℕ, Bool, ◌&&◌, List, [], map, Option, Some, None, slice_get, position, unwrap_or}
-use Rattle.std.specs.Prelude.{nat_eq}
+use Rattle.std.specs.Prelude.{nat_eq, if◌then◌else◌}
 use Rattle.std.specs.Option.{option_and_then}
 use Rattle.il_values.specs.declared.value.Value.{Value}
 use Rattle.il_model.specs.declared.program.Variable.{Variable}
@@ -48,6 +48,11 @@ kept_value us own v = kept_by (λ u. goes_on u v) us own
 -- the instance that goes on as this one, with its inputs and its state
 abbrev pub kept_instance : List Instance → List BlockInstance → Instance → Option BlockInstance
 kept_instance xs bs y = kept_by (λ x. goes_on_as x y) xs bs
+
+-- the place that is told, if what stands there passes
+abbrev pub placed_by : {X : Type 0} → (X → Bool) → List X → Option ℕ → Option ℕ
+placed_by passes xs place =
+    option_and_then (λ i. option_and_then (λ x. if passes x then Some i else None) (slice_get xs i)) place
 
 -- a kept value, or else the variable's first value
 abbrev pub carried_value : List Variable → List Value → Variable → Value

@@ -1,6 +1,6 @@
 -- The bytes told by a program and the literals of its typed program are the typed program's spelling.
-use Rattle.std.proofs.Common.{◌≡◌, ℕ, List, [], ◌∷◌, ◌++◌, length, Option, Some, None, Ok, refl, sym, ap, ◌∙◌}
-use Rattle.std.specs.Prelude.{Bool, ◌&&◌, if◌then◌else◌, map}
+use Rattle.std.proofs.Common.{◌≡◌, ℕ, suc, List, [], ◌∷◌, ◌++◌, length, Option, Some, None, Ok, refl, sym, ap, ◌∙◌}
+use Rattle.std.specs.Prelude.{Bool, ◌&&◌, if◌then◌else◌, map, not, nat_le}
 use Rattle.std.specs.List.{flat_map, list_all}
 use Rattle.std.specs.Option.{option_map, option_and_then}
 use Rattle.std.proofs.lemmas.List.{map-append}
@@ -21,6 +21,7 @@ use Rattle.il_model.specs.Resolved.{target_of, instance_in, kind_in, called_kind
 use Rattle.il_model.specs.Marks.{Mark, marks_from, words_in, address_of}
 use Rattle.il_model.specs.Constants.{same_value, operand_literal, joined_constants, constants_from, operands_in, operands_of}
 use Rattle.il_model.specs.CodedOperands.{code_of}
+use Rattle.il_model.specs.Limits.{most_variables, most_instances, most_instructions, is_crowded}
 use Rattle.il_model.specs.Image.{number_or_unused, coded_operand, operand_code, coded_word, modifier_code, side_code, field_number_code, word_bytes, argument_bytes, instruction_bytes, may_declare, may_instantiate, may_keep, may_write, version_with, header_bytes, variable_bytes, instance_bytes, mark_bytes, constant_bytes, spelling}
 use Rattle.il_values.specs.OpCodes.{op_code}
 use Rattle.il_model.specs.Settled.{settled_argument, settled_line, typed_program_of}
@@ -131,19 +132,36 @@ parts version variables instances marks constants count words =
     header_bytes version (length variables) (length instances) (length marks) (length constants) count
     ++ (flat_map (variable_bytes version) variables ++ (flat_map instance_bytes instances ++ (flat_map mark_bytes marks ++ (flat_map (constant_bytes version) constants ++ words))))
 
+-- a version has room for so many instructions with so many words, and for the declarations
+abbrev has_room_by : Version → List Variable → List Instance → ℕ → ℕ → Bool
+has_room_by version vs xs n words =
+    nat_le (length vs) (most_variables version) && (nat_le (length xs) (most_instances version) && (nat_le n (most_instructions version) && not (is_crowded n words)))
+
+abbrev suffices_by : Version → List Variable → List Instance → List Value → ℕ → ℕ → Bool → Bool
+suffices_by version vs xs cs n words writes =
+    has_room_by version vs xs n words && (list_all (may_declare version) vs && (list_all (may_instantiate version) xs && (list_all (may_keep version) cs && writes)))
+
 -- the first version that suffices, where the first two may have the instructions or not
-abbrev first_sufficing : List Variable → List Instance → List Value → Bool → Bool → Version
-first_sufficing vs xs cs one two =
-    if list_all (may_declare versions.One) vs && (list_all (may_instantiate versions.One) xs && (list_all (may_keep versions.One) cs && one)) then versions.One
-    else (if list_all (may_declare versions.Two) vs && (list_all (may_instantiate versions.Two) xs && (list_all (may_keep versions.Two) cs && two)) then versions.Two else versions.Three)
+abbrev first_sufficing : List Variable → List Instance → List Value → ℕ → ℕ → Bool → Bool → Version
+first_sufficing vs xs cs n words one two = if suffices_by versions.One vs xs cs n words one then versions.One
+    else (if suffices_by versions.Two vs xs cs n words two then versions.Two else versions.Three)
+
+same_count : (ps qs : List Instr) → AreSettledLines ps qs → length ps ≡ length qs
+same_count [] [] are = refl
+same_count [] (q ∷ qs) are = absurd are
+same_count (p ∷ ps) [] are = absurd are
+same_count (p ∷ ps) (q ∷ qs) are = ap suc (same_count ps qs are.1)
 
 -- a program and its typed program have one version
 version_alike : (P Q : Program) (constants : List Value) → Alike P Q → AreSettledLines P.code Q.code → version_with P.variables P.instances constants P.code ≡ version_with Q.variables Q.instances constants Q.code
 version_alike P Q constants a are =
+    let writes = list_all (may_write versions.Two) P.code in
     ap (λ (vs : List Variable). version_with vs P.instances constants P.code) (sym a.variables)
     ∙ ap (λ (xs : List Instance). version_with Q.variables xs constants P.code) (sym a.instances)
-    ∙ ap (λ (b : Bool). first_sufficing Q.variables Q.instances constants b (list_all (may_write versions.Two) P.code)) (same_writes versions.One P.code Q.code are)
-    ∙ ap (λ (b : Bool). first_sufficing Q.variables Q.instances constants (list_all (may_write versions.One) Q.code) b) (same_writes versions.Two P.code Q.code are)
+    ∙ ap (λ (n : ℕ). first_sufficing Q.variables Q.instances constants n (words_in P.code) (list_all (may_write versions.One) P.code) writes) (same_count P.code Q.code are)
+    ∙ ap (λ (n : ℕ). first_sufficing Q.variables Q.instances constants (length Q.code) n (list_all (may_write versions.One) P.code) writes) (same_words P.code Q.code are)
+    ∙ ap (λ (b : Bool). first_sufficing Q.variables Q.instances constants (length Q.code) (words_in Q.code) b writes) (same_writes versions.One P.code Q.code are)
+    ∙ ap (λ (b : Bool). first_sufficing Q.variables Q.instances constants (length Q.code) (words_in Q.code) (list_all (may_write versions.One) Q.code) b) (same_writes versions.Two P.code Q.code are)
 
 spelled : (P Q : Program) → Alike P Q → AreSettledLines P.code Q.code → settled_bytes P (constants_in [] (all_literals P.code (literals_of Q.code))) (literals_of Q.code) ≡ spelling Q
 spelled P Q a are =

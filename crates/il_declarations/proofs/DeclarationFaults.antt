@@ -34,16 +34,16 @@ use Rattle.il_declarations.proofs.Names.{planned, planned_by, planned_start, pla
 
 -- ---- one name
 
-new_agrees : (dialect : Dialect) → (names : List DeclaredName) (d : BlockDeclaration) (t : Token) → Agrees (new_name (type_in dialect d.text) (made dialect names) t) (name_faults dialect names (named_in d t))
+new_agrees : (dialect : Dialect) → (names : List DeclaredName) (d : BlockDeclaration) (t : Token) → Agrees (new_name dialect (type_in dialect d.text) (made dialect names) t) (name_faults dialect names (named_in d t))
 unfolding new_name
 new_agrees dialect names d t =
     test_agrees _ _ (taken_known dialect names (named_in d t)) kinds.Duplicate t.left _ _
     (test_agrees (is_reserved (capitals t.text)) _ refl kinds.ReservedName t.left _ _
     (last_agrees _ _ (room_known dialect names (type_in dialect d.text)) kinds.TooMany t.left (capitals t.text)))
 
-new_gives : (type : Option DeclaredType) (known : Declarations) (t : Token) (name : List ℕ) → new_name type known t ≡ Ok name → capitals t.text ≡ name
+new_gives : (dialect : Dialect) (type : Option DeclaredType) (known : Declarations) (t : Token) (name : List ℕ) → new_name dialect type known t ≡ Ok name → capitals t.text ≡ name
 unfolding new_name
-new_gives type known t name e = chosen ((has_name known (capitals t.text) || has_instance known (capitals t.text)) || is_shadowed type known (capitals t.text)) (is_reserved (capitals t.text)) (is_full type known) e
+new_gives dialect type known t name e = chosen ((has_name known (capitals t.text) || has_instance known (capitals t.text)) || is_shadowed type known (capitals t.text)) (is_reserved (capitals t.text)) (is_full dialect type known) e
   where
     chosen : (a b c : Bool) → cond a (refused kinds.Duplicate t) (cond b (refused kinds.ReservedName t) (cond c (refused kinds.TooMany t) (Ok (capitals t.text)))) ≡ Ok name → capitals t.text ≡ name
     chosen true b c h = absurd cc
@@ -51,17 +51,17 @@ new_gives type known t name e = chosen ((has_name known (capitals t.text) || has
     chosen false false true h = absurd cc
     chosen false false false h = ok_is (capitals t.text) name h
 
-name_agrees : (dialect : Dialect) → (names : List DeclaredName) (d : BlockDeclaration) (plan : Plan) (t : Token) → plan.ty ≡ type_in dialect d.text → Agrees (declare_name plan (made dialect names) t) (name_faults dialect names (named_in d t))
+name_agrees : (dialect : Dialect) → (names : List DeclaredName) (d : BlockDeclaration) (plan : Plan) (t : Token) → plan.ty ≡ type_in dialect d.text → Agrees (declare_name dialect plan (made dialect names) t) (name_faults dialect names (named_in d t))
 unfolding declare_name
 name_agrees dialect names d plan t type =
-    made_agrees (new_name plan.ty (made dialect names) t) (λ name. with_declared plan (made dialect names) name None plan.ty) (name_faults dialect names (named_in d t))
-    (subst (λ (o : Option DeclaredType). Agrees (new_name o (made dialect names) t) (name_faults dialect names (named_in d t))) (sym type) (new_agrees dialect names d t))
+    made_agrees (new_name dialect plan.ty (made dialect names) t) (λ name. with_declared plan (made dialect names) name None plan.ty) (name_faults dialect names (named_in d t))
+    (subst (λ (o : Option DeclaredType). Agrees (new_name dialect o (made dialect names) t) (name_faults dialect names (named_in d t))) (sym type) (new_agrees dialect names d t))
 
-name_kept : (dialect : Dialect) → (names : List DeclaredName) (d : BlockDeclaration) (t : Token) (z : Declarations) → written_location dialect d.text.names ≡ None → declare_name (plan_of dialect d) (made dialect names) t ≡ Ok z → z ≡ made dialect (names ++ named_in d t ∷ [])
+name_kept : (dialect : Dialect) → (names : List DeclaredName) (d : BlockDeclaration) (t : Token) (z : Declarations) → written_location dialect d.text.names ≡ None → declare_name dialect (plan_of dialect d) (made dialect names) t ≡ Ok z → z ≡ made dialect (names ++ named_in d t ∷ [])
 unfolding declare_name
 name_kept dialect names d t z place e =
-    let m = bind_ok (new_name (type_in dialect d.text) (made dialect names) t) (λ name. Ok (with_declared (plan_of dialect d) (made dialect names) name None (type_in dialect d.text))) z e in
-    let n = new_gives (type_in dialect d.text) (made dialect names) t m.0 m.1 in
+    let m = bind_ok (new_name dialect (type_in dialect d.text) (made dialect names) t) (λ name. Ok (with_declared (plan_of dialect d) (made dialect names) name None (type_in dialect d.text))) z e in
+    let n = new_gives dialect (type_in dialect d.text) (made dialect names) t m.0 m.1 in
     sym (ok_is (with_declared (plan_of dialect d) (made dialect names) m.0 None (type_in dialect d.text)) z m.2)
     ∙ sym (ap (λ (name : List ℕ). with_declared (plan_of dialect d) (made dialect names) name None (type_in dialect d.text)) n)
     ∙ one_more dialect names (named_in d t) (type_in dialect d.text) (type_in dialect d.text) None (planned_value dialect (type_in dialect d.text) d.text.initial) refl place (planned_same dialect (type_in dialect d.text) d.text.initial)
@@ -84,28 +84,28 @@ beside_names dialect d names before (t ∷ ts) =
     ap (λ (fs : List FaultAt). (name_faults dialect) (names ++ map (named_in d) before) (named_in d t) ++ fs)
     (beside_names dialect d names (before ++ t ∷ []) ts ∙ ap (λ (b : List DeclaredName). beside (name_faults dialect) b (map (named_in d) ts)) (sym (map_push d names before t)))
 
-names_agree : (dialect : Dialect) → (names : List DeclaredName) (d : BlockDeclaration) (ts : List Token) → written_location dialect d.text.names ≡ None → Agrees (each (declare_name (plan_of dialect d)) (made dialect names) ts) (beside (name_faults dialect) names (map (named_in d) ts))
+names_agree : (dialect : Dialect) → (names : List DeclaredName) (d : BlockDeclaration) (ts : List Token) → written_location dialect d.text.names ≡ None → Agrees (each (declare_name dialect (plan_of dialect d)) (made dialect names) ts) (beside (name_faults dialect) names (map (named_in d) ts))
 names_agree dialect names d ts place =
-    subst (λ (fs : List FaultAt). Agrees (each (declare_name (plan_of dialect d)) (made dialect names) ts) fs)
+    subst (λ (fs : List FaultAt). Agrees (each (declare_name dialect (plan_of dialect d)) (made dialect names) ts) fs)
     (beside_names dialect d names [] ts ∙ ap (λ (b : List DeclaredName). beside (name_faults dialect) b (map (named_in d) ts)) (append-nil names))
-    (each_agrees (Stands dialect names d) (declare_name (plan_of dialect d)) (λ b t. name_faults dialect (names ++ map (named_in d) b) (named_in d t)) agree keep [] ts (made dialect names) (ap (made dialect) (sym (append-nil names))))
+    (each_agrees (Stands dialect names d) (declare_name dialect (plan_of dialect d)) (λ b t. name_faults dialect (names ++ map (named_in d) b) (named_in d t)) agree keep [] ts (made dialect names) (ap (made dialect) (sym (append-nil names))))
   where
-    agree : (before : List Token) (t : Token) (y : Declarations) → Stands dialect names d before y → Agrees (declare_name (plan_of dialect d) y t) (name_faults dialect (names ++ map (named_in d) before) (named_in d t))
+    agree : (before : List Token) (t : Token) (y : Declarations) → Stands dialect names d before y → Agrees (declare_name dialect (plan_of dialect d) y t) (name_faults dialect (names ++ map (named_in d) before) (named_in d t))
     agree before t y stands =
-        subst (λ (known : Declarations). Agrees (declare_name (plan_of dialect d) known t) (name_faults dialect (names ++ map (named_in d) before) (named_in d t))) (sym stands)
+        subst (λ (known : Declarations). Agrees (declare_name dialect (plan_of dialect d) known t) (name_faults dialect (names ++ map (named_in d) before) (named_in d t))) (sym stands)
         (name_agrees dialect (names ++ map (named_in d) before) d (plan_of dialect d) t refl)
 
-    keep : (before : List Token) (t : Token) (y z : Declarations) → Stands dialect names d before y → declare_name (plan_of dialect d) y t ≡ Ok z → Stands dialect names d (before ++ t ∷ []) z
+    keep : (before : List Token) (t : Token) (y z : Declarations) → Stands dialect names d before y → declare_name dialect (plan_of dialect d) y t ≡ Ok z → Stands dialect names d (before ++ t ∷ []) z
     keep before t y z stands e =
-        name_kept dialect (names ++ map (named_in d) before) d t z place (subst (λ (known : Declarations). declare_name (plan_of dialect d) known t ≡ Ok z) stands e)
+        name_kept dialect (names ++ map (named_in d) before) d t z place (subst (λ (known : Declarations). declare_name dialect (plan_of dialect d) known t ≡ Ok z) stands e)
         ∙ ap (made dialect) (map_push d names before t)
 
-names_kept : (dialect : Dialect) → (names : List DeclaredName) (d : BlockDeclaration) (ts : List Token) (z : Declarations) → written_location dialect d.text.names ≡ None → each (declare_name (plan_of dialect d)) (made dialect names) ts ≡ Ok z → z ≡ made dialect (names ++ map (named_in d) ts)
-names_kept dialect names d ts z place e = each_kept (Stands dialect names d) (declare_name (plan_of dialect d)) keep [] ts (made dialect names) z (ap (made dialect) (sym (append-nil names))) e
+names_kept : (dialect : Dialect) → (names : List DeclaredName) (d : BlockDeclaration) (ts : List Token) (z : Declarations) → written_location dialect d.text.names ≡ None → each (declare_name dialect (plan_of dialect d)) (made dialect names) ts ≡ Ok z → z ≡ made dialect (names ++ map (named_in d) ts)
+names_kept dialect names d ts z place e = each_kept (Stands dialect names d) (declare_name dialect (plan_of dialect d)) keep [] ts (made dialect names) z (ap (made dialect) (sym (append-nil names))) e
   where
-    keep : (before : List Token) (t : Token) (y z : Declarations) → Stands dialect names d before y → declare_name (plan_of dialect d) y t ≡ Ok z → Stands dialect names d (before ++ t ∷ []) z
+    keep : (before : List Token) (t : Token) (y z : Declarations) → Stands dialect names d before y → declare_name dialect (plan_of dialect d) y t ≡ Ok z → Stands dialect names d (before ++ t ∷ []) z
     keep before t y z stands e =
-        name_kept dialect (names ++ map (named_in d) before) d t z place (subst (λ (known : Declarations). declare_name (plan_of dialect d) known t ≡ Ok z) stands e)
+        name_kept dialect (names ++ map (named_in d) before) d t z place (subst (λ (known : Declarations). declare_name dialect (plan_of dialect d) known t ≡ Ok z) stands e)
         ∙ ap (made dialect) (map_push d names before t)
 
 -- ---- types, locations and first values
@@ -202,9 +202,9 @@ behind_agrees dialect d named =
     (made_agrees (first_value dialect type None d.text.initial) (λ v. named) (start_faults dialect None d.text.initial (Some type)) (start_agrees dialect type None d.text.initial)))
 
 -- a list of names, one after the other
-listed_is : (dialect : Dialect) → (known : Declarations) (d : BlockDeclaration) (more : List Token) → declare_listed dialect known d more ≡ (each (declare_name (plan_of dialect d)) known (d.text.name ∷ more) >>= behind_names dialect d None)
+listed_is : (dialect : Dialect) → (known : Declarations) (d : BlockDeclaration) (more : List Token) → declare_listed dialect known d more ≡ (each (declare_name dialect (plan_of dialect d)) known (d.text.name ∷ more) >>= behind_names dialect d None)
 unfolding declare_listed each
-listed_is dialect known d more = sym (bind_assoc (declare_name (plan_of dialect d) known d.text.name) (λ first. each (declare_name (plan_of dialect d)) first more) (behind_names dialect d None))
+listed_is dialect known d more = sym (bind_assoc (declare_name dialect (plan_of dialect d) known d.text.name) (λ first. each (declare_name dialect (plan_of dialect d)) first more) (behind_names dialect d None))
 
 listed_agrees : (dialect : Dialect) → (names : List DeclaredName) (d : BlockDeclaration) (more : List Token) → d.text.names ≡ More more → Agrees (declare_listed dialect (made dialect names) d more) (declaration_faults dialect names d)
 listed_agrees dialect names d more is =
@@ -212,12 +212,12 @@ listed_agrees dialect names d more is =
     let P : NamesText → Type 0 = λ x. Agrees (declare_listed dialect (made dialect names) d more) (beside (name_faults dialect) names (map (named_in d) (d.text.name ∷ other_names x)) ++ (location_faults dialect names (type_in dialect d.text) x ++ (when (is_none (type_in dialect d.text)) kinds.UnknownType d.text.ty.left ++ start_faults dialect (written_location dialect x) d.text.initial (type_in dialect d.text)))) in
     subst P (sym is)
     (rw (listed_is dialect (made dialect names) d more)
-    (then_agrees (each (declare_name (plan_of dialect d)) (made dialect names) (d.text.name ∷ more)) (behind_names dialect d None) _ _ (names_agree dialect names d (d.text.name ∷ more) place) (λ named e. behind_agrees dialect d named)))
+    (then_agrees (each (declare_name dialect (plan_of dialect d)) (made dialect names) (d.text.name ∷ more)) (behind_names dialect d None) _ _ (names_agree dialect names d (d.text.name ∷ more) place) (λ named e. behind_agrees dialect d named)))
 
 listed_kept : (dialect : Dialect) → (names : List DeclaredName) (d : BlockDeclaration) (more : List Token) (z : Declarations) → d.text.names ≡ More more → declare_listed dialect (made dialect names) d more ≡ Ok z → IsKept dialect names d z
 listed_kept dialect names d more z is e =
     let place : written_location dialect d.text.names ≡ None = ap (written_location dialect) is in
-    let a = bind_ok (each (declare_name (plan_of dialect d)) (made dialect names) (d.text.name ∷ more)) (behind_names dialect d None) z (sym (listed_is dialect (made dialect names) d more) ∙ e) in
+    let a = bind_ok (each (declare_name dialect (plan_of dialect d)) (made dialect names) (d.text.name ∷ more)) (behind_names dialect d None) z (sym (listed_is dialect (made dialect names) d more) ∙ e) in
     let b = bind_ok (known_type dialect d.text.ty) (λ type. first_value dialect type None d.text.initial >>= λ v. Ok a.0) z a.2 in
     let c = bind_ok (first_value dialect b.0 None d.text.initial) (λ v. Ok a.0) z b.2 in
     let started = subst (λ (loc : Option Loc). (first_value dialect) b.0 loc d.text.initial ≡ Ok c.0) (sym place) c.1 in
@@ -241,8 +241,8 @@ unfolding declare_located beside
 located_agrees dialect names d at is =
     let P : NamesText → Type 0 = λ x. Agrees (declare_located dialect (made dialect names) d at) (beside (name_faults dialect) names (map (named_in d) (d.text.name ∷ other_names x)) ++ (location_faults dialect names (type_in dialect d.text) x ++ (when (is_none (type_in dialect d.text)) kinds.UnknownType d.text.ty.left ++ start_faults dialect (written_location dialect x) d.text.initial (type_in dialect d.text)))) in
     subst P (sym is)
-    (then_agrees (new_name (type_in dialect d.text) (made dialect names) d.text.name) (λ name. free_location dialect (type_in dialect d.text) (made dialect names) at >>= behind_place dialect (made dialect names) d name) _ _
-    (subst (λ (fs : List FaultAt). Agrees (new_name (type_in dialect d.text) (made dialect names) d.text.name) fs) (sym (append-nil (name_faults dialect names (named_in d d.text.name)))) (new_agrees dialect names d d.text.name))
+    (then_agrees (new_name dialect (type_in dialect d.text) (made dialect names) d.text.name) (λ name. free_location dialect (type_in dialect d.text) (made dialect names) at >>= behind_place dialect (made dialect names) d name) _ _
+    (subst (λ (fs : List FaultAt). Agrees (new_name dialect (type_in dialect d.text) (made dialect names) d.text.name) fs) (sym (append-nil (name_faults dialect names (named_in d d.text.name)))) (new_agrees dialect names d d.text.name))
     (λ name e. then_agrees (free_location dialect (type_in dialect d.text) (made dialect names) at) (behind_place dialect (made dialect names) d name) _ _ (place_agrees dialect names (type_in dialect d.text) at)
     (λ loc h. subst (λ (o : Option Loc). Agrees (behind_place dialect (made dialect names) d name loc) (when (is_none (type_in dialect d.text)) kinds.UnknownType d.text.ty.left ++ start_faults dialect o d.text.initial (type_in dialect d.text))) (sym (place_gives dialect (type_in dialect d.text) (made dialect names) at loc h))
     (behind_place_agrees dialect (made dialect names) d name loc))))
@@ -253,7 +253,7 @@ start_is dialect (Block kind) loc None v e = sym (ok_is (values.Bool false) v e)
 start_is dialect (Block kind) loc (Some t) v e = absurd cc
 
 -- what the steps of a declaration at a location gave is kept
-located_made : (dialect : Dialect) (names : List DeclaredName) (d : BlockDeclaration) (at : Token) (name : List ℕ) (loc : Loc) (type : DeclaredType) (v : Value) → d.text.names ≡ Located at → new_name (type_in dialect d.text) (made dialect names) d.text.name ≡ Ok name
+located_made : (dialect : Dialect) (names : List DeclaredName) (d : BlockDeclaration) (at : Token) (name : List ℕ) (loc : Loc) (type : DeclaredType) (v : Value) → d.text.names ≡ Located at → new_name dialect (type_in dialect d.text) (made dialect names) d.text.name ≡ Ok name
     → free_location dialect (type_in dialect d.text) (made dialect names) at ≡ Ok loc → known_type dialect d.text.ty ≡ Ok type → first_value dialect type (Some loc) d.text.initial ≡ Ok v
     → IsKept dialect names d (with_declared (record { ty = Some type; initial = v; retained = d.retained }) (made dialect names) name (Some (place_as type loc)) (Some type))
 located_made dialect names d at name loc type v is named free typed first =
@@ -261,7 +261,7 @@ located_made dialect names d at name loc type v is named free typed first =
     let is_type = type_gives dialect d.text.ty type typed in
     let started = subst (λ (o : Option Loc). first_value dialect type o d.text.initial ≡ Ok v) (sym place) first in
     record {
-      keeps = sym (ap (λ (n : List ℕ). with_declared (record { ty = Some type; initial = v; retained = d.retained }) (made dialect names) n (Some (place_as type loc)) (Some type)) (new_gives (type_in dialect d.text) (made dialect names) d.text.name name named))
+      keeps = sym (ap (λ (n : List ℕ). with_declared (record { ty = Some type; initial = v; retained = d.retained }) (made dialect names) n (Some (place_as type loc)) (Some type)) (new_gives dialect (type_in dialect d.text) (made dialect names) d.text.name name named))
           ∙ one_more dialect names (named_in d d.text.name) (Some type) (Some type) (Some loc) v is_type place (start_is dialect type (Some loc) d.text.initial v first)
           ∙ ap (λ (x : NamesText). made dialect (names ++ map (named_in d) (d.text.name ∷ other_names x))) (sym is);
       starts = all_start dialect d (starts_by dialect d type v is_type started) (d.text.name ∷ other_names d.text.names);
@@ -273,7 +273,7 @@ kept_as dialect names d x z e kept = subst (IsKept dialect names d) (ok_is x z e
 located_kept : (dialect : Dialect) → (names : List DeclaredName) (d : BlockDeclaration) (at : Token) (z : Declarations) → d.text.names ≡ Located at → declare_located dialect (made dialect names) d at ≡ Ok z → IsKept dialect names d z
 unfolding declare_located
 located_kept dialect names d at z is e =
-    let a = bind_ok (new_name (type_in dialect d.text) (made dialect names) d.text.name) (λ name. free_location dialect (type_in dialect d.text) (made dialect names) at >>= behind_place dialect (made dialect names) d name) z e in
+    let a = bind_ok (new_name dialect (type_in dialect d.text) (made dialect names) d.text.name) (λ name. free_location dialect (type_in dialect d.text) (made dialect names) at >>= behind_place dialect (made dialect names) d name) z e in
     let b = bind_ok (free_location dialect (type_in dialect d.text) (made dialect names) at) (behind_place dialect (made dialect names) d a.0) z a.2 in
     let c = bind_ok (known_type dialect d.text.ty) (λ type. first_value dialect type (Some b.0) d.text.initial >>= λ v. Ok (with_declared (record { ty = Some type; initial = v; retained = d.retained }) (made dialect names) a.0 (Some (place_as type b.0)) (Some type))) z b.2 in
     let f = bind_ok (first_value dialect c.0 (Some b.0) d.text.initial) (λ v. Ok (with_declared (record { ty = Some c.0; initial = v; retained = d.retained }) (made dialect names) a.0 (Some (place_as c.0 b.0)) (Some c.0))) z c.2 in

@@ -1,5 +1,5 @@
 -- The faults of a text as one list, in the order of the text.
-use Rattle.std.specs.Prelude.{◌≡◌, ◌⊎◌, ℕ, List, [], ◌∷◌, ◌++◌, length, Option, Some, None, is_none, Bool, not, nat_le, if◌then◌else◌, ◌||◌}
+use Rattle.std.specs.Prelude.{◌≡◌, ◌⊎◌, ℕ, List, [], ◌∷◌, ◌++◌, Option, Some, None, is_none, Bool, not, if◌then◌else◌, ◌||◌}
 use Rattle.std.specs.List.{flat_map}
 use Rattle.il_model.specs.declared.dialect.Dialect.{Dialect}
 use Rattle.il_model.specs.Dialects.{literal_in, location_in}
@@ -13,7 +13,7 @@ use Rattle.il_declarations.specs.declared.fault.DeclKind.TheVariants as kinds
 use Rattle.il_declarations.specs.declared.fault.FaultAt.{FaultAt}
 use Rattle.il_declarations.specs.Resolution.{capitals}
 use Rattle.il_declarations.specs.Declaring.{DeclaredName, BlockDeclaration, names_in, declarations_of, names_of, type_in, written_location, is_declared, names_variable, names_instance, arguments_behind, is_shadowed}
-use Rattle.il_declarations.specs.TextFaults.{has_no_room, is_no_place, is_overlapping, is_bad_start, names_field}
+use Rattle.il_declarations.specs.TextFaults.{has_no_room, is_past_room, is_no_place, is_overlapping, is_bad_start, names_field}
 
 -- ---- the faults of declarations
 
@@ -74,8 +74,8 @@ operation_faults dialect names None = []
 operation_faults dialect names (Some o) = behind_faults dialect names o.behind ++ flat_map (λ a. operand_faults dialect names a.operand) (arguments_behind o.behind)
 
 abbrev pub line_faults : (dialect : Dialect) → List DeclaredName → List LineText → LineText → List FaultAt
-line_faults dialect names before (Labelled t o) = when (is_reserved (capitals t.text)) kinds.ReservedName t.left ++ (when (nat_le 4096 (length before)) kinds.TooMany t.left ++ operation_faults dialect names o)
-line_faults dialect names before (Plain o) = when (nat_le 4096 (length before)) kinds.TooMany o.operator.left ++ operation_faults dialect names (Some o)
+line_faults dialect names before (Labelled t o) = when (is_reserved (capitals t.text)) kinds.ReservedName t.left ++ (when (is_past_room dialect before (Labelled t o)) kinds.TooMany t.left ++ operation_faults dialect names o)
+line_faults dialect names before (Plain o) = when (is_past_room dialect before (Plain o)) kinds.TooMany o.operator.left ++ operation_faults dialect names (Some o)
 
 -- ---- the whole
 

@@ -1,6 +1,6 @@
 -- The faults of the list are those that a text has.
-use Rattle.std.proofs.Common.{◌≡◌, ◌⊎◌, inl, inr, ℕ, Bool, true, false, List, [], ◌∷◌, ◌++◌, length, map, Option, Some, None, refl, sym, ap, subst, ◌∙◌, append_assoc, ◌||◌}
-use Rattle.std.specs.Prelude.{is_none, nat_le}
+use Rattle.std.proofs.Common.{◌≡◌, ◌⊎◌, inl, inr, ℕ, Bool, true, false, List, [], ◌∷◌, ◌++◌, map, Option, Some, None, refl, sym, ap, subst, ◌∙◌, append_assoc, ◌||◌}
+use Rattle.std.specs.Prelude.{is_none}
 use Rattle.std.specs.List.{flat_map}
 use Rattle.std.proofs.lemmas.List.{append-nil}
 use Rattle.il_model.specs.declared.dialect.Dialect.{Dialect}
@@ -15,7 +15,7 @@ use Rattle.il_declarations.specs.declared.fault.DeclKind.TheVariants as kinds
 use Rattle.il_declarations.specs.declared.fault.FaultAt.{FaultAt}
 use Rattle.il_declarations.specs.Resolution.{capitals}
 use Rattle.il_declarations.specs.Declaring.{DeclaredName, BlockDeclaration, names_in, declarations_of, names_of, type_in, written_location, is_declared, is_shadowed, arguments_behind}
-use Rattle.il_declarations.specs.TextFaults.{Somewhere, has_no_room, is_no_place, is_overlapping, is_bad_start, Asked, AsVariable, AsInstance, AsLocation, AsLiteral, asked_token, asked_kind, is_missing, asked_by, asked_behind, asked_of, asked_in, begins_at, HasFaultOf, HasFault}
+use Rattle.il_declarations.specs.TextFaults.{Somewhere, has_no_room, is_past_room, is_no_place, is_overlapping, is_bad_start, Asked, AsVariable, AsInstance, AsLocation, AsLiteral, asked_token, asked_kind, is_missing, asked_by, asked_behind, asked_of, asked_in, begins_at, HasFaultOf, HasFault}
 use Rattle.il_declarations.proofs.Agreeing.{each_by_itself, beside_append}
 use Rattle.il_declarations.proofs.DeclarationFaults.{before_of, before_push}
 use Rattle.il_declarations.proofs.FaultList.{when, beside, name_faults, place_faults, location_faults, start_faults, declaration_faults, faults_of_declarations, operand_faults, behind_faults, operation_faults, line_faults, faults_of, Among}
@@ -252,9 +252,9 @@ missing_had dialect p f before l i a = by_asked s.item refl
     by_asked (AsLiteral t) e = unknown (ap asked_kind e)
     by_asked (AsLocation t) e = told dialect p kinds.BadLocation (asked_token s.item).left f (as_kind kinds.BadLocation (ap asked_kind e)) (inr (there kinds.BadLocation (ap asked_kind e)))
 
-many_had : (dialect : Dialect) → (p : ProgramText) (f : FaultAt) (before : List LineText) (l : LineText) → InLine p before l → Among f (when (nat_le 4096 (length before)) kinds.TooMany (begins_at l)) → HasFault dialect p f
+many_had : (dialect : Dialect) → (p : ProgramText) (f : FaultAt) (before : List LineText) (l : LineText) → InLine p before l → Among f (when (is_past_room dialect before l) kinds.TooMany (begins_at l)) → HasFault dialect p f
 many_had dialect p f before l i a =
-    let w = was (nat_le 4096 (length before)) kinds.TooMany (begins_at l) f a in
+    let w = was (is_past_room dialect before l) kinds.TooMany (begins_at l) f a in
     told dialect p kinds.TooMany (begins_at l) f w.is (inr (record { before = before; item = l; behind = i.behind; is = i.is; holds = (refl, w.test) }))
 
 label_had : (dialect : Dialect) → (p : ProgramText) (f : FaultAt) (before : List LineText) (t : Token) (o : Option OperationText) → InLine p before (Labelled t o) → Among f (when (is_reserved (capitals t.text)) kinds.ReservedName t.left) → HasFault dialect p f
@@ -263,18 +263,18 @@ label_had dialect p f before t o i a =
     told dialect p kinds.ReservedName t.left f w.is (inr (record { before = before; item = Labelled t o; behind = i.behind; is = i.is; holds = (t, o, refl, refl, w.test) }))
 
 behind_had : (dialect : Dialect) → (p : ProgramText) (f : FaultAt) (before : List LineText) (l : LineText) (o : Option OperationText) → asked_in l ≡ asked_of o → InLine p before l
-    → Among f (when (nat_le 4096 (length before)) kinds.TooMany (begins_at l)) ⊎ Among f (operation_faults dialect (names_of p) o) → HasFault dialect p f
+    → Among f (when (is_past_room dialect before l) kinds.TooMany (begins_at l)) ⊎ Among f (operation_faults dialect (names_of p) o) → HasFault dialect p f
 behind_had dialect p f before l o e i (inl a) = many_had dialect p f before l i a
 behind_had dialect p f before l o e i (inr a) =
     missing_had dialect p f before l i (subst (λ (xs : List Asked). Among f (flat_map (asked_faults dialect (names_of p)) xs)) (sym e) (subst (λ (fs : List FaultAt). Among f fs) (operation_asked dialect (names_of p) o) a))
 
 line_had : (dialect : Dialect) → (p : ProgramText) (f : FaultAt) (before : List LineText) (l : LineText) → InLine p before l → Among f (line_faults dialect (names_of p) before l) → HasFault dialect p f
-line_had dialect p f before (Plain o) i a = behind_had dialect p f before (Plain o) (Some o) refl i (parted f (when (nat_le 4096 (length before)) kinds.TooMany o.operator.left) (operation_faults dialect (names_of p) (Some o)) a)
-line_had dialect p f before (Labelled t o) i a = chosen (parted f (when (is_reserved (capitals t.text)) kinds.ReservedName t.left) (when (nat_le 4096 (length before)) kinds.TooMany t.left ++ operation_faults dialect (names_of p) o) a)
+line_had dialect p f before (Plain o) i a = behind_had dialect p f before (Plain o) (Some o) refl i (parted f (when (is_past_room dialect before (Plain o)) kinds.TooMany o.operator.left) (operation_faults dialect (names_of p) (Some o)) a)
+line_had dialect p f before (Labelled t o) i a = chosen (parted f (when (is_reserved (capitals t.text)) kinds.ReservedName t.left) (when (is_past_room dialect before (Labelled t o)) kinds.TooMany t.left ++ operation_faults dialect (names_of p) o) a)
   where
-    chosen : Among f (when (is_reserved (capitals t.text)) kinds.ReservedName t.left) ⊎ Among f (when (nat_le 4096 (length before)) kinds.TooMany t.left ++ operation_faults dialect (names_of p) o) → HasFault dialect p f
+    chosen : Among f (when (is_reserved (capitals t.text)) kinds.ReservedName t.left) ⊎ Among f (when (is_past_room dialect before (Labelled t o)) kinds.TooMany t.left ++ operation_faults dialect (names_of p) o) → HasFault dialect p f
     chosen (inl b) = label_had dialect p f before t o i b
-    chosen (inr b) = behind_had dialect p f before (Labelled t o) o refl i (parted f (when (nat_le 4096 (length before)) kinds.TooMany t.left) (operation_faults dialect (names_of p) o) b)
+    chosen (inr b) = behind_had dialect p f before (Labelled t o) o refl i (parted f (when (is_past_room dialect before (Labelled t o)) kinds.TooMany t.left) (operation_faults dialect (names_of p) o) b)
 
 -- each fault of the list is one that the text has
 pub had : (dialect : Dialect) → (p : ProgramText) (f : FaultAt) → Among f (faults_of dialect p) → HasFault dialect p f
@@ -335,10 +335,10 @@ start_listed dialect p left s =
     in_declaration dialect p f (record { before = b; item = d; behind = s.behind; is = s.is; holds = right_in f (names_part dialect b d) _ (right_in f (location_faults dialect (before_of b) (type_in dialect d.text) d.text.names) _ (right_in f (type_part dialect d) (start_part dialect d) written)) })
 
 missing_in : (dialect : Dialect) → (names : List DeclaredName) (f : FaultAt) (before : List LineText) (l : LineText) → Among f (flat_map (asked_faults dialect names) (asked_in l)) → Among f (line_faults dialect names before l)
-missing_in dialect names f before (Plain o) a = right_in f (when (nat_le 4096 (length before)) kinds.TooMany o.operator.left) (operation_faults dialect names (Some o)) (subst (λ (fs : List FaultAt). Among f fs) (sym (operation_asked dialect names (Some o))) a)
+missing_in dialect names f before (Plain o) a = right_in f (when (is_past_room dialect before (Plain o)) kinds.TooMany o.operator.left) (operation_faults dialect names (Some o)) (subst (λ (fs : List FaultAt). Among f fs) (sym (operation_asked dialect names (Some o))) a)
 missing_in dialect names f before (Labelled t o) a =
     right_in f (when (is_reserved (capitals t.text)) kinds.ReservedName t.left) _
-    (right_in f (when (nat_le 4096 (length before)) kinds.TooMany t.left) (operation_faults dialect names o) (subst (λ (fs : List FaultAt). Among f fs) (sym (operation_asked dialect names o)) a))
+    (right_in f (when (is_past_room dialect before (Labelled t o)) kinds.TooMany t.left) (operation_faults dialect names o) (subst (λ (fs : List FaultAt). Among f fs) (sym (operation_asked dialect names o)) a))
 
 missing_listed : (dialect : Dialect) → (p : ProgramText) (kind : DeclKind) (left : ℕ) → Somewhere (λ b l. Somewhere (λ others a. IsMissing dialect p kind left a) (asked_in l)) p.lines → Among (fault kind left) (faults_of dialect p)
 missing_listed dialect p kind left s =
@@ -368,13 +368,13 @@ label_listed dialect p left s =
       holds = subst (λ (l : LineText). Among f (line_faults dialect (names_of p) s.before l)) (sym s.holds.2) (left_in f (when (is_reserved (capitals t.text)) kinds.ReservedName t.left) _ at);
     })
 
-many_in : (dialect : Dialect) → (names : List DeclaredName) (before : List LineText) (l : LineText) → nat_le 4096 (length before) ≡ true → Among (fault kinds.TooMany (begins_at l)) (line_faults dialect names before l)
-many_in dialect names before (Plain o) e = left_in _ (when (nat_le 4096 (length before)) kinds.TooMany o.operator.left) _ (is_when (nat_le 4096 (length before)) kinds.TooMany o.operator.left e)
+many_in : (dialect : Dialect) → (names : List DeclaredName) (before : List LineText) (l : LineText) → is_past_room dialect before l ≡ true → Among (fault kinds.TooMany (begins_at l)) (line_faults dialect names before l)
+many_in dialect names before (Plain o) e = left_in _ (when (is_past_room dialect before (Plain o)) kinds.TooMany o.operator.left) _ (is_when (is_past_room dialect before (Plain o)) kinds.TooMany o.operator.left e)
 many_in dialect names before (Labelled t o) e =
     right_in _ (when (is_reserved (capitals t.text)) kinds.ReservedName t.left) _
-    (left_in _ (when (nat_le 4096 (length before)) kinds.TooMany t.left) (operation_faults dialect names o) (is_when (nat_le 4096 (length before)) kinds.TooMany t.left e))
+    (left_in _ (when (is_past_room dialect before (Labelled t o)) kinds.TooMany t.left) (operation_faults dialect names o) (is_when (is_past_room dialect before (Labelled t o)) kinds.TooMany t.left e))
 
-many_listed : (dialect : Dialect) → (p : ProgramText) (left : ℕ) → Somewhere (λ b l. (left ≡ begins_at l) × (nat_le 4096 (length b) ≡ true)) p.lines → Among (fault kinds.TooMany left) (faults_of dialect p)
+many_listed : (dialect : Dialect) → (p : ProgramText) (left : ℕ) → Somewhere (λ b l. (left ≡ begins_at l) × (is_past_room dialect b l ≡ true)) p.lines → Among (fault kinds.TooMany left) (faults_of dialect p)
 many_listed dialect p left s =
     in_line dialect p (fault kinds.TooMany left) (record {
       before = s.before;

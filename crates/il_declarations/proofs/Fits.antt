@@ -1,16 +1,20 @@
 -- What a text declares has lawful forms: names, locations, initial values, operators with their letters, operands and arguments.
-use Rattle.std.proofs.Common.{◌≡◌, ℕ, suc, ◌<◌, ◌≤◌, Bool, true, false, cond, leb, ltb, List, [], ◌∷◌, ◌++◌, length, Option, Some, None, Result, Ok, Err, refl, sym, ap, subst, ◌∙◌, arith, ◌&&◌, ◌||◌, not, append_assoc, map}
+use Rattle.std.proofs.Common.{◌≡◌, ℕ, suc, ◌+◌, ◌<◌, ◌≤◌, Bool, true, false, cond, ltb, List, [], ◌∷◌, ◌++◌, length, Option, Some, None, Result, Ok, Err, refl, sym, ap, subst, ◌∙◌, arith, ◌&&◌, ◌||◌, not, append_assoc, map}
 use Rattle.std.specs.Prelude.{ℤ, pos, is_some}
 use Rattle.std.specs.List.{AllByRecursion, list_all, list_any, position}
 use Rattle.std.specs.Option.{option_map, option_and_then}
 use Rattle.std.specs.Cmp.Lexicographic.{nat_list_eq_equiv}
 use Rattle.std.proofs.lemmas.List.{length-append, append-nil}
-use Rattle.std.proofs.lemmas.Bool.{lt-ltb, le-ltb, le-leb, leb-false}
+use Rattle.std.proofs.lemmas.Bool.{lt-ltb, ltb-false, le-leb, leb-false, cond-true}
 use Rattle.il_model.specs.declared.dialect.Dialect.{Dialect}
 use Rattle.il_model.specs.declared.dialect.Dialect.TheVariants as dialects
 use Rattle.il_values.specs.declared.function.Function.{Function}
 use Rattle.il_values.specs.Functions.{function_named}
-use Rattle.il_model.specs.Dialects.{applied, or_function, or_extended, operator_in, literal_in, location_in}
+use Rattle.il_model.specs.Dialects.{applied, or_function, or_extended, operator_in, literal_in, location_in, newest}
+use Rattle.il_model.specs.Limits.{most_variables, most_instances, most_instructions, is_crowded, has_room}
+use Rattle.il_model.specs.Marks.{word_count, words_in}
+use Rattle.il_model.proofs.Marks.{words_in-append}
+use Rattle.il_model.proofs.Sizes.{room_within, variables_most, instances_most, instructions_most}
 use Rattle.il_model.specs.Program.{program_of, Program, Declarations}
 use Rattle.il_model.specs.declared.codes.Version.TheVariants as versions
 use Rattle.il_values.specs.declared.value.Ty.{Ty}
@@ -66,8 +70,8 @@ use Rattle.il_declarations.specs.declared.fault.FaultAt.{FaultAt}
 use Rattle.il_declarations.specs.declared.variables.Plan.{Plan}
 use Rattle.il_declarations.specs.declared.variables.DeclaredType.{DeclaredType}
 use Rattle.il_declarations.specs.declared.variables.DeclaredType.TheVariants.{Elementary, Block}
-use Rattle.il_declarations.specs.Resolution.{capitals, declared_type, suits, place_as, variable, same_type, fitting, is_input, written_value, opens, with_opening}
-use Rattle.il_declarations.specs.Declaring.{BlockDeclaration, in_block, declarations_in}
+use Rattle.il_declarations.specs.Resolution.{capitals, declared_type, suits, place_as, variable, same_type, fitting, is_input, written_value, opens, with_opening, are_too_many}
+use Rattle.il_declarations.specs.Declaring.{BlockDeclaration, in_block, declarations_in, arguments_behind, operation_words}
 use Rattle.il_declarations.specs.Walk.{◌>>=◌, each, refused, nothing, has_name, has_instance, is_full, is_shadowed, new_name, free_loc, free_location, found_type, known_type, fitted, elementary_value, first_value, planned_value, with_declared, declare_name, declare_located, declare_listed, declare_by, declare, declare_block, direct, constant, field_named, argument_of, pushed_argument, behind_arguments, behind_of, instruction_of, room, label_of, instruct_labelled, instruct_plain, instruct}
 use Rattle.il_declarations.specs.Resolution as resolution
 use Rattle.il_declarations.specs.Walk as walk
@@ -103,25 +107,25 @@ items_push {X} I seen (y ∷ ys) x all here = (all.0, items_push I (seen ++ y �
 
 pub record Fine (known : Declarations) : Type 0 where
   pub variables : AreItems IsVariable [] known.variables
-  pub variables_few : length known.variables ≤ 512
+  pub variables_few : length known.variables ≤ 4096
   pub instances : AreItems (IsInstance known.variables) [] known.instances
-  pub instances_few : length known.instances ≤ 128
+  pub instances_few : length known.instances ≤ 1024
 
 -- what a name is that was not refused
-record IsNew (type : Option DeclaredType) (known : Declarations) (t : Token) (name : List ℕ) : Type 0 where
+record IsNew (dialect : Dialect) (type : Option DeclaredType) (known : Declarations) (t : Token) (name : List ℕ) : Type 0 where
   is : capitals t.text ≡ name
   no_variable : has_name known (capitals t.text) ≡ false
   no_instance : has_instance known (capitals t.text) ≡ false
   apart : is_shadowed type known (capitals t.text) ≡ false
   free : is_reserved (capitals t.text) ≡ false
-  room : is_full type known ≡ false
+  room : is_full dialect type known ≡ false
 
-new_is : (type : Option DeclaredType) (known : Declarations) (t : Token) (name : List ℕ) → new_name type known t ≡ Ok name → IsNew type known t name
+new_is : (dialect : Dialect) (type : Option DeclaredType) (known : Declarations) (t : Token) (name : List ℕ) → new_name dialect type known t ≡ Ok name → IsNew dialect type known t name
 unfolding new_name
-new_is type known t name e = chosen (has_name known (capitals t.text)) (has_instance known (capitals t.text)) (is_shadowed type known (capitals t.text)) (is_reserved (capitals t.text)) (is_full type known) refl refl refl refl refl e
+new_is dialect type known t name e = chosen (has_name known (capitals t.text)) (has_instance known (capitals t.text)) (is_shadowed type known (capitals t.text)) (is_reserved (capitals t.text)) (is_full dialect type known) refl refl refl refl refl e
   where
-    chosen : (a i s b c : Bool) → has_name known (capitals t.text) ≡ a → has_instance known (capitals t.text) ≡ i → is_shadowed type known (capitals t.text) ≡ s → is_reserved (capitals t.text) ≡ b → is_full type known ≡ c
-        → cond ((a || i) || s) (refused kinds.Duplicate t) (cond b (refused kinds.ReservedName t) (cond c (refused kinds.TooMany t) (Ok (capitals t.text)))) ≡ Ok name → IsNew type known t name
+    chosen : (a i s b c : Bool) → has_name known (capitals t.text) ≡ a → has_instance known (capitals t.text) ≡ i → is_shadowed type known (capitals t.text) ≡ s → is_reserved (capitals t.text) ≡ b → is_full dialect type known ≡ c
+        → cond ((a || i) || s) (refused kinds.Duplicate t) (cond b (refused kinds.ReservedName t) (cond c (refused kinds.TooMany t) (Ok (capitals t.text)))) ≡ Ok name → IsNew dialect type known t name
     chosen true i s b c f j k g h e = absurd cc
     chosen false true s b c f j k g h e = absurd cc
     chosen false false true b c f j k g h e = absurd cc
@@ -129,11 +133,15 @@ new_is type known t name e = chosen (has_name known (capitals t.text)) (has_inst
     chosen false false false false true f j k g h e = absurd cc
     chosen false false false false false f j k g h e = record { is = ok_is (capitals t.text) name e; no_variable = f; no_instance = j; apart = k; free = g; room = h }
 
-more_variables : (type : Ty) (known : Declarations) → is_full (Some (Elementary type)) known ≡ false → length known.variables < 512
-more_variables type known e = leb-false 512 (length known.variables) e
+more_variables : (dialect : Dialect) (type : Ty) (known : Declarations) → is_full dialect (Some (Elementary type)) known ≡ false → length known.variables < 4096
+more_variables dialect type known e =
+    let below = leb-false (most_variables (newest dialect)) (length known.variables) e in
+    omega (arith, below, variables_most (newest dialect))
 
-more_instances : (kind : BlockKind) (known : Declarations) → is_full (Some (Block kind)) known ≡ false → length known.instances < 128
-more_instances kind known e = leb-false 128 (length known.instances) e
+more_instances : (dialect : Dialect) (kind : BlockKind) (known : Declarations) → is_full dialect (Some (Block kind)) known ≡ false → length known.instances < 1024
+more_instances dialect kind known e =
+    let below = leb-false (most_instances (newest dialect)) (length known.instances) e in
+    omega (arith, below, instances_most (newest dialect))
 
 type_again : (type : Ty) → codes_of.type_of (type_code type) ≡ Some type
 type_again types.Bool = refl
@@ -163,7 +171,7 @@ long_enough : (dialect : Dialect) (t : Token) → IsName dialect t → length_in
 long_enough dialect t word = let l = capitals_length dialect t.text word in rw (lt-ltb 0 (length (capitals t.text)) l.0, le-leb (length (capitals t.text)) 96 l.1) refl
 
 -- a lawful name at a place that none has, with a first value
-variable_fits : (dialect : Dialect) (r : Bool) (known : Declarations) (t : Token) (name : List ℕ) (type : Ty) (o : Option Loc) (v : Value) → IsName dialect t → IsNew (Some (Elementary type)) known t name
+variable_fits : (dialect : Dialect) (r : Bool) (known : Declarations) (t : Token) (name : List ℕ) (type : Ty) (o : Option Loc) (v : Value) → IsName dialect t → IsNew dialect (Some (Elementary type)) known t name
     → ((loc : Loc) → o ≡ Some loc → IsFreePlace (Elementary type) known loc) → IsStart type o v → IsVariable known.variables (variable r name type o v)
 variable_fits dialect r known t name type o v word new place start =
     subst (λ (n : List ℕ). IsVariable known.variables (variable r n type o v)) new.is (by_place o place start)
@@ -184,7 +192,7 @@ abbrev instance : Bool → List ℕ → BlockKind → Instance
 instance r name kind = record { name = name; kind = kind; retained = r }
 
 -- a lawful name that no variable and no instance has, and under which no variable stands
-instance_fits : (dialect : Dialect) (r : Bool) (known : Declarations) (t : Token) (name : List ℕ) (kind : BlockKind) → IsName dialect t → IsNew (Some (Block kind)) known t name → IsInstance known.variables known.instances (instance r name kind)
+instance_fits : (dialect : Dialect) (r : Bool) (known : Declarations) (t : Token) (name : List ℕ) (kind : BlockKind) → IsName dialect t → IsNew dialect (Some (Block kind)) known t name → IsInstance known.variables known.instances (instance r name kind)
 instance_fits dialect r known t name kind word new =
     let lawful = capitals_lawful dialect t.text word new.free in
     subst (λ (n : List ℕ). IsInstance known.variables known.instances (instance r n kind)) new.is (record { length = long_enough dialect t word; name = rw (lawful, new.no_variable, new.no_instance, new.apart) refl })
@@ -339,10 +347,10 @@ planned_start dialect (Block kind) o v e = tt
 abbrev plan : Bool → Option DeclaredType → Value → Plan
 plan r type v = record { ty = type; initial = v; retained = r }
 
-declared_fine : (dialect : Dialect) (r : Bool) (type : DeclaredType) (v : Value) (known : Declarations) (t : Token) (name : List ℕ) (loc : Option Loc) → Fine known → IsName dialect t → IsNew (Some type) known t name
+declared_fine : (dialect : Dialect) (r : Bool) (type : DeclaredType) (v : Value) (known : Declarations) (t : Token) (name : List ℕ) (loc : Option Loc) → Fine known → IsName dialect t → IsNew dialect (Some type) known t name
     → ((l : Loc) → loc ≡ Some l → IsFreePlace type known l) → Starts type loc v → Fine (with_declared (plan r (Some type) v) known name loc (Some type))
 declared_fine dialect r (Elementary type) v known t name loc fine word new place start =
-    let more = more_variables type known new.room in
+    let more = more_variables dialect type known new.room in
     let none : is_some (instance_in known.instances name) ≡ false = subst (λ (n : List ℕ). is_some (instance_in known.instances n) ≡ false) new.is new.no_instance in
     let apart : list_any (λ (w : Instance). stands_under w.name name) known.instances ≡ false = subst (λ (n : List ℕ). list_any (λ (w : Instance). stands_under w.name n) known.instances ≡ false) new.is new.apart in
     record {
@@ -352,7 +360,7 @@ declared_fine dialect r (Elementary type) v known t name loc fine word new place
       instances_few = fine.instances_few;
     }
 declared_fine dialect r (Block kind) v known t name loc fine word new place start =
-    let more = more_instances kind known new.room in
+    let more = more_instances dialect kind known new.room in
     record {
       variables = fine.variables;
       variables_few = fine.variables_few;
@@ -360,12 +368,12 @@ declared_fine dialect r (Block kind) v known t name loc fine word new place star
       instances_few = omega (arith, more, length-append known.instances (instance r name kind ∷ []));
     }
 
-name_keeps : (dialect : Dialect) (r : Bool) (type : DeclaredType) (v : Value) (known : Declarations) (t : Token) (z : Declarations) → Starts type None v → Fine known → IsName dialect t → declare_name (plan r (Some type) v) known t ≡ Ok z → Fine z
+name_keeps : (dialect : Dialect) (r : Bool) (type : DeclaredType) (v : Value) (known : Declarations) (t : Token) (z : Declarations) → Starts type None v → Fine known → IsName dialect t → declare_name dialect (plan r (Some type) v) known t ≡ Ok z → Fine z
 unfolding declare_name
 name_keeps dialect r type v known t z start fine word e =
-    let m = bind_ok (new_name (Some type) known t) (λ name. Ok (with_declared (plan r (Some type) v) known name None (Some type))) z e in
+    let m = bind_ok (new_name dialect (Some type) known t) (λ name. Ok (with_declared (plan r (Some type) v) known name None (Some type))) z e in
     subst Fine (ok_is (with_declared (plan r (Some type) v) known m.0 None (Some type)) z m.2)
-    (declared_fine dialect r type v known t m.0 None fine word (new_is (Some type) known t m.0 m.1) (λ loc none. absurd (no_place loc none)) start)
+    (declared_fine dialect r type v known t m.0 None fine word (new_is dialect (Some type) known t m.0 m.1) (λ loc none. absurd (no_place loc none)) start)
 
 type_is : (dialect : Dialect) → (t : Token) (type : DeclaredType) → known_type dialect t ≡ Ok type → declared_type dialect t.text ≡ Some type
 type_is dialect t type e = found (declared_type dialect t.text) e
@@ -401,18 +409,18 @@ becomes z known e fine = subst Fine (ok_is known z e) fine
 abbrev located : Bool → Declarations → List ℕ → Loc → DeclaredType → Value → Declarations
 located r known name loc type v = with_declared (plan r (Some type) v) known name (Some (place_as type loc)) (Some type)
 
-located_fine : (dialect : Dialect) → (known : Declarations) (d : BlockDeclaration) (at : Token) (name : List ℕ) (loc : Loc) (type : DeclaredType) (v : Value) → Fine known → IsName dialect d.text.name → new_name (declared_type dialect d.text.ty.text) known d.text.name ≡ Ok name
+located_fine : (dialect : Dialect) → (known : Declarations) (d : BlockDeclaration) (at : Token) (name : List ℕ) (loc : Loc) (type : DeclaredType) (v : Value) → Fine known → IsName dialect d.text.name → new_name dialect (declared_type dialect d.text.ty.text) known d.text.name ≡ Ok name
     → free_location dialect (declared_type dialect d.text.ty.text) known at ≡ Ok loc → known_type dialect d.text.ty ≡ Ok type → first_value dialect type (Some loc) d.text.initial ≡ Ok v → Fine (located d.retained known name loc type v)
 located_fine dialect known d at name loc type v fine word named free typed first =
     let known-type = type_is dialect d.text.ty type typed in
-    let new = new_is (Some type) known d.text.name name (subst (λ (o : Option DeclaredType). new_name o known d.text.name ≡ Ok name) known-type named) in
+    let new = new_is dialect (Some type) known d.text.name name (subst (λ (o : Option DeclaredType). new_name dialect o known d.text.name ≡ Ok name) known-type named) in
     let place = place_is dialect type known at loc (subst (λ (o : Option DeclaredType). free_location dialect o known at ≡ Ok loc) known-type free) in
     declared_fine dialect d.retained type v known d.text.name name (Some (place_as type loc)) fine word new (λ l is. subst (IsFreePlace type known) (same_loc (place_as type loc) l is) place) (first_start_seen dialect type loc d.text.initial v first)
 
 located_keeps : (dialect : Dialect) → (known : Declarations) (d : BlockDeclaration) (at : Token) (z : Declarations) → Fine known → IsName dialect d.text.name → declare_located dialect known d at ≡ Ok z → Fine z
 unfolding declare_located
 located_keeps dialect known d at z fine word e =
-    let a = bind_ok (new_name (declared_type dialect d.text.ty.text) known d.text.name) (λ name. free_location dialect (declared_type dialect d.text.ty.text) known at >>= λ loc. known_type dialect d.text.ty >>= λ type. first_value dialect type (Some loc) d.text.initial >>= λ v. Ok (located d.retained known name loc type v)) z e in
+    let a = bind_ok (new_name dialect (declared_type dialect d.text.ty.text) known d.text.name) (λ name. free_location dialect (declared_type dialect d.text.ty.text) known at >>= λ loc. known_type dialect d.text.ty >>= λ type. first_value dialect type (Some loc) d.text.initial >>= λ v. Ok (located d.retained known name loc type v)) z e in
     let b = bind_ok (free_location dialect (declared_type dialect d.text.ty.text) known at) (λ loc. known_type dialect d.text.ty >>= λ type. first_value dialect type (Some loc) d.text.initial >>= λ v. Ok (located d.retained known a.0 loc type v)) z a.2 in
     let c = bind_ok (known_type dialect d.text.ty) (λ type. first_value dialect type (Some b.0) d.text.initial >>= λ v. Ok (located d.retained known a.0 b.0 type v)) z b.2 in
     let f = bind_ok (first_value dialect c.0 (Some b.0) d.text.initial) (λ v. Ok (located d.retained known a.0 b.0 c.0 v)) z c.2 in
@@ -422,15 +430,15 @@ listed_keeps : (dialect : Dialect) → (known : Declarations) (d : BlockDeclarat
 unfolding declare_listed
 listed_keeps dialect known d more z fine word words e =
     let typed_value : Option DeclaredType → Plan = λ o. plan d.retained o (planned_value dialect o d.text.initial) in
-    let a = bind_ok (declare_name (typed_value (declared_type dialect d.text.ty.text)) known d.text.name) (λ first. each (declare_name (typed_value (declared_type dialect d.text.ty.text))) first more >>= λ named. known_type dialect d.text.ty >>= λ type. first_value dialect type None d.text.initial >>= λ v. Ok named) z e in
-    let b = bind_ok (each (declare_name (typed_value (declared_type dialect d.text.ty.text))) a.0 more) (λ named. known_type dialect d.text.ty >>= λ type. first_value dialect type None d.text.initial >>= λ v. Ok named) z a.2 in
+    let a = bind_ok (declare_name dialect (typed_value (declared_type dialect d.text.ty.text)) known d.text.name) (λ first. each (declare_name dialect (typed_value (declared_type dialect d.text.ty.text))) first more >>= λ named. known_type dialect d.text.ty >>= λ type. first_value dialect type None d.text.initial >>= λ v. Ok named) z e in
+    let b = bind_ok (each (declare_name dialect (typed_value (declared_type dialect d.text.ty.text))) a.0 more) (λ named. known_type dialect d.text.ty >>= λ type. first_value dialect type None d.text.initial >>= λ v. Ok named) z a.2 in
     let c = bind_ok (known_type dialect d.text.ty) (λ type. first_value dialect type None d.text.initial >>= λ v. Ok b.0) z b.2 in
     let f = bind_ok (first_value dialect c.0 None d.text.initial) (λ v. Ok b.0) z c.2 in
     let type = type_is dialect d.text.ty c.0 c.1 in
     let v = planned_value dialect (Some c.0) d.text.initial in
     let start : Starts c.0 None v = planned_start dialect c.0 d.text.initial f.0 f.1 in
-    let first : Fine a.0 = name_keeps dialect d.retained c.0 v known d.text.name a.0 start fine word (subst (λ (o : Option DeclaredType). declare_name (typed_value o) known d.text.name ≡ Ok a.0) type a.1) in
-    let rest : Fine b.0 = each_keeps Fine (IsName dialect) (declare_name (typed_value (Some c.0))) (λ y t w p q h. name_keeps dialect d.retained c.0 v y t w start p q h) a.0 more b.0 first words (subst (λ (o : Option DeclaredType). each (declare_name (typed_value o)) a.0 more ≡ Ok b.0) type b.1) in
+    let first : Fine a.0 = name_keeps dialect d.retained c.0 v known d.text.name a.0 start fine word (subst (λ (o : Option DeclaredType). declare_name dialect (typed_value o) known d.text.name ≡ Ok a.0) type a.1) in
+    let rest : Fine b.0 = each_keeps Fine (IsName dialect) (declare_name dialect (typed_value (Some c.0))) (λ y t w p q h. name_keeps dialect d.retained c.0 v y t w start p q h) a.0 more b.0 first words (subst (λ (o : Option DeclaredType). each (declare_name dialect (typed_value o)) a.0 more ≡ Ok b.0) type b.1) in
     subst Fine (ok_is b.0 z f.2) rest
 
 by_names : (dialect : Dialect) → (known : Declarations) (d : BlockDeclaration) (x : NamesText) (z : Declarations) → Fine known → IsName dialect d.text.name → AreNames dialect x → declare_by dialect known d x ≡ Ok z → Fine z
@@ -440,12 +448,12 @@ by_names dialect known d (More more) z fine word words e = listed_keeps dialect 
 declare_keeps : (dialect : Dialect) → (known : Declarations) (d : BlockDeclaration) (z : Declarations) → Fine known → IsNamedDeclaration dialect d.text → declare dialect known d ≡ Ok z → Fine z
 declare_keeps dialect known d z fine words e = by_names dialect known d d.text.names z fine words.name words.names e
 
-words_in : (dialect : Dialect) (r : Bool) (ds : List DeclarationText) → AllByRecursion (IsNamedDeclaration dialect) ds → AllByRecursion (λ (d : BlockDeclaration). IsNamedDeclaration dialect d.text) (map (in_block r) ds)
-words_in dialect r [] words = tt
-words_in dialect r (d ∷ ds) words = (words.0, words_in dialect r ds words.1)
+block_words : (dialect : Dialect) (r : Bool) (ds : List DeclarationText) → AllByRecursion (IsNamedDeclaration dialect) ds → AllByRecursion (λ (d : BlockDeclaration). IsNamedDeclaration dialect d.text) (map (in_block r) ds)
+block_words dialect r [] words = tt
+block_words dialect r (d ∷ ds) words = (words.0, block_words dialect r ds words.1)
 
 block_keeps : (dialect : Dialect) → (known : Declarations) (b : BlockText) (z : Declarations) → Fine known → AllByRecursion (IsNamedDeclaration dialect) b.declarations → declare_block dialect known b ≡ Ok z → Fine z
-block_keeps dialect known b z fine words e = each_keeps Fine (λ (d : BlockDeclaration). IsNamedDeclaration dialect d.text) (declare dialect) (declare_keeps dialect) known (declarations_in b) z fine (words_in dialect (is_retained b) b.declarations words) e
+block_keeps dialect known b z fine words e = each_keeps Fine (λ (d : BlockDeclaration). IsNamedDeclaration dialect d.text) (declare dialect) (declare_keeps dialect) known (declarations_in b) z fine (block_words dialect (is_retained b) b.declarations words) e
 
 pub blocks_fine : (dialect : Dialect) → (bs : List BlockText) (z : Declarations) → AllByRecursion (λ (b : BlockText). AllByRecursion (IsNamedDeclaration dialect) b.declarations) bs → each (declare_block dialect) nothing bs ≡ Ok z → Fine z
 blocks_fine dialect bs z words e = each_keeps Fine (λ (b : BlockText). AllByRecursion (IsNamedDeclaration dialect) b.declarations) (declare_block dialect) (block_keeps dialect) nothing bs z (record { variables = tt; variables_few = omega arith; instances = tt; instances_few = omega arith }) words e
@@ -763,40 +771,83 @@ optional_is dialect ds name None line labelled is e =
     (record { label = labelled; letters = refl; operand = tt; formed = refl; arguments = tt; placed = refl })
 optional_is dialect ds name (Some o) line labelled is e = operation_is dialect ds (Some name) o line labelled is e
 
+-- ---- the words of an instruction
+
+pushed_all : (dialect : Dialect) (ds : Declarations) (found : List Argument) (given : List ArgumentText) (z : List Argument) → each (pushed_argument dialect ds) found given ≡ Ok z → length z ≡ length found + length given
+unfolding each
+pushed_all dialect ds found [] z e = omega (arith, ap length (ok_is found z e))
+pushed_all dialect ds found (a ∷ given) z e =
+    let b = bind_ok (pushed_argument dialect ds found a) (λ more. each (pushed_argument dialect ds) more given) z e in
+    let c = bind_ok (argument_of dialect ds a) (λ x. Ok (found ++ x ∷ [])) b.0 b.1 in
+    let one : length (found ++ c.0 ∷ []) ≡ length b.0 = ap length (ok_is (found ++ c.0 ∷ []) b.0 c.2) in
+    let rest = pushed_all dialect ds b.0 given z b.2 in
+    omega (arith, one, rest, length-append found (c.0 ∷ []))
+
+arguments_long : (dialect : Dialect) (ds : Declarations) (b : BehindText) (z : List Argument) → behind_arguments dialect ds b ≡ Ok z → length z ≡ length (arguments_behind b)
+arguments_long dialect ds Nothing z e = ap length (sym (ok_is [] z e))
+arguments_long dialect ds (Given x) z e = ap length (sym (ok_is [] z e))
+arguments_long dialect ds (Target t) z e = ap length (sym (ok_is [] z e))
+arguments_long dialect ds (Opened o) z e = ap length (sym (ok_is [] z e))
+arguments_long dialect ds (Called c) z e = (let long = pushed_all dialect ds [] (arguments_of c) z e in omega (arith, long))
+
+pub instruction_words : (dialect : Dialect) (ds : Declarations) (label : Option (List ℕ)) (o : Option OperationText) (line : Instr) → instruction_of dialect ds label o ≡ Ok line → word_count line ≡ operation_words o
+unfolding instruction_of
+instruction_words dialect ds label None line e = ap word_count (sym (ok_is (instruction label ops.Empty resolution.plain operands.Absent []) line e))
+instruction_words dialect ds label (Some o) line e =
+    let a = bind_ok (behind_of dialect ds o.behind) (λ x. behind_arguments dialect ds o.behind >>= λ arguments. Ok (operated label o x arguments)) line e in
+    let c = bind_ok (behind_arguments dialect ds o.behind) (λ arguments. Ok (operated label o a.0 arguments)) line a.2 in
+    let same : word_count (operated label o a.0 c.0) ≡ word_count line = ap word_count (ok_is (operated label o a.0 c.0) line c.2) in
+    omega (arith, same, arguments_long dialect ds o.behind c.0 c.1)
+
 pub record FineCode (ds : Declarations) (code : List Instr) : Type 0 where
   pub all : AllByRecursion (IsInstruction ds) code
-  pub few : length code ≤ 4096
+  pub few : length code ≤ 16384
+  pub uncrowded : is_crowded (length code) (words_in code) ≡ false
 
-code_push : (ds : Declarations) (code : List Instr) (line : Instr) (left : ℕ) (u : Unit {0}) → FineCode ds code → room code left ≡ Ok u → IsInstruction ds line → FineCode ds (code ++ line ∷ [])
-code_push ds code line left u fine free is =
-    let lt = has_room (leb 4096 (length code)) refl free in
-    record { all = all_push (IsInstruction ds) code line fine.all is; few = omega (arith, lt, length-append code (line ∷ [])) }
-  where
-    has_room : (t : Bool) → leb 4096 (length code) ≡ t → cond {A = Result (Unit {0}) FaultAt} t (Err (record { kind = kinds.TooMany; left = left })) (Ok tt) ≡ Ok u → length code < 4096
-    has_room true f h = absurd cc
-    has_room false f h = leb-false 4096 (length code) f
+no_more : (dialect : Dialect) (n words left : ℕ) (u : Unit {0}) (t : Bool) → are_too_many dialect n words ≡ t → cond {A = Result (Unit {0}) FaultAt} t (Err (record { kind = kinds.TooMany; left = left })) (Ok tt) ≡ Ok u → are_too_many dialect n words ≡ false
+no_more dialect n words left u true f h = absurd cc
+no_more dialect n words left u false f h = f
+
+neither : (a b : Bool) → (a || b) ≡ false → (a ≡ false) × (b ≡ false)
+neither true b e = absurd cc
+neither false b e = (refl, e)
+
+code_push : (dialect : Dialect) (ds : Declarations) (code : List Instr) (line : Instr) (words left : ℕ) (u : Unit {0}) → FineCode ds code → room dialect code words left ≡ Ok u → word_count line ≡ words → IsInstruction ds line → FineCode ds (code ++ line ∷ [])
+code_push dialect ds code line words left u fine free long is =
+    let n : ℕ = suc (length code) in
+    let all : ℕ = words_in code + words in
+    let none = no_more dialect n all left u (are_too_many dialect n all) refl free in
+    let both = neither (ltb (most_instructions (newest dialect)) n) (is_crowded n all) none in
+    let within : n ≤ most_instructions (newest dialect) = ltb-false (most_instructions (newest dialect)) n both.0 in
+    let count : n ≡ length (code ++ line ∷ []) = omega (arith, length-append code (line ∷ [])) in
+    let sum : all ≡ words_in (code ++ line ∷ []) = omega (arith, long, words_in-append code (line ∷ [])) in
+    record {
+      all = all_push (IsInstruction ds) code line fine.all is;
+      few = omega (arith, within, count, instructions_most (newest dialect));
+      uncrowded = ap (λ (k : ℕ). is_crowded k (words_in (code ++ line ∷ []))) (sym count) ∙ ap (is_crowded n) (sym sum) ∙ both.1;
+    }
 
 labelled_keeps : (dialect : Dialect) → (ds : Declarations) (code : List Instr) (t : Token) (o : Option OperationText) (z : List Instr) → FineCode ds code → IsName dialect t → IsOptionalOperation dialect o → instruct_labelled dialect ds code t o ≡ Ok z → FineCode ds z
 unfolding instruct_labelled
 labelled_keeps dialect ds code t o z fine word is e =
-    let a = bind_ok (label_of t) (λ label. room code t.left >>= λ here. instruction_of dialect ds (Some label) o >>= λ line. Ok (code ++ line ∷ [])) z e in
-    let b = bind_ok (room code t.left) (λ here. instruction_of dialect ds (Some a.0) o >>= λ line. Ok (code ++ line ∷ [])) z a.2 in
+    let a = bind_ok (label_of t) (λ label. room dialect code (operation_words o) t.left >>= λ here. instruction_of dialect ds (Some label) o >>= λ line. Ok (code ++ line ∷ [])) z e in
+    let b = bind_ok (room dialect code (operation_words o) t.left) (λ here. instruction_of dialect ds (Some a.0) o >>= λ line. Ok (code ++ line ∷ [])) z a.2 in
     let c = bind_ok (instruction_of dialect ds (Some a.0) o) (λ line. Ok (code ++ line ∷ [])) z b.2 in
-    subst (FineCode ds) (ok_is (code ++ c.0 ∷ []) z c.2) (code_push ds code c.0 t.left b.0 fine b.1 (optional_is dialect ds a.0 o c.0 (label_is dialect t a.0 word a.1) is c.1))
+    subst (FineCode ds) (ok_is (code ++ c.0 ∷ []) z c.2) (code_push dialect ds code c.0 (operation_words o) t.left b.0 fine b.1 (instruction_words dialect ds (Some a.0) o c.0 c.1) (optional_is dialect ds a.0 o c.0 (label_is dialect t a.0 word a.1) is c.1))
 
 plain_keeps : (dialect : Dialect) → (ds : Declarations) (code : List Instr) (o : OperationText) (z : List Instr) → FineCode ds code → IsOperation dialect o → instruct_plain dialect ds code o ≡ Ok z → FineCode ds z
 unfolding instruct_plain
 plain_keeps dialect ds code o z fine is e =
-    let b = bind_ok (room code o.operator.left) (λ here. instruction_of dialect ds None (Some o) >>= λ line. Ok (code ++ line ∷ [])) z e in
+    let b = bind_ok (room dialect code (operation_words (Some o)) o.operator.left) (λ here. instruction_of dialect ds None (Some o) >>= λ line. Ok (code ++ line ∷ [])) z e in
     let c = bind_ok (instruction_of dialect ds None (Some o)) (λ line. Ok (code ++ line ∷ [])) z b.2 in
-    subst (FineCode ds) (ok_is (code ++ c.0 ∷ []) z c.2) (code_push ds code c.0 o.operator.left b.0 fine b.1 (operation_is dialect ds None o c.0 tt is c.1))
+    subst (FineCode ds) (ok_is (code ++ c.0 ∷ []) z c.2) (code_push dialect ds code c.0 (operation_words (Some o)) o.operator.left b.0 fine b.1 (instruction_words dialect ds None (Some o) c.0 c.1) (operation_is dialect ds None o c.0 tt is c.1))
 
 line_keeps : (dialect : Dialect) → (ds : Declarations) (code : List Instr) (l : LineText) (z : List Instr) → FineCode ds code → IsOperator dialect l → instruct dialect ds code l ≡ Ok z → FineCode ds z
 line_keeps dialect ds code (Labelled t o) z fine is e = labelled_keeps dialect ds code t o z fine is.0 is.1 e
 line_keeps dialect ds code (Plain o) z fine is e = plain_keeps dialect ds code o z fine is e
 
 pub lines_fine : (dialect : Dialect) → (ds : Declarations) (ls : List LineText) (z : List Instr) → AllByRecursion (IsOperator dialect) ls → each (instruct dialect ds) [] ls ≡ Ok z → FineCode ds z
-lines_fine dialect ds ls z words e = each_keeps (FineCode ds) (IsOperator dialect) (instruct dialect ds) (line_keeps dialect ds) [] ls z (record { all = tt; few = omega arith }) words e
+lines_fine dialect ds ls z words e = each_keeps (FineCode ds) (IsOperator dialect) (instruct dialect ds) (line_keeps dialect ds) [] ls z (record { all = tt; few = omega arith; uncrowded = refl }) words e
 
 -- ---- the whole
 
@@ -808,7 +859,7 @@ parts_fit dialect p bs ls known vs xs code words b l v x e f =
     let lines = lines_fine dialect known p.lines code words.lines (subst (λ (y : List LineText). each (instruct dialect known) [] y ≡ Ok code) l f) in
     subst (λ (ws : List Variable). IsDeclared (record { variables = ws; instances = xs; code = code })) (sym v)
     (subst (λ (ys : List Instance). IsDeclared (record { variables = known.variables; instances = ys; code = code })) (sym x)
-    (record { variables = declared.variables; variables_few = declared.variables_few; instances = declared.instances; instances_few = declared.instances_few; lines = lines.all; lines_few = lines.few }))
+    (record { variables = declared.variables; variables_few = declared.variables_few; instances = declared.instances; instances_few = declared.instances_few; lines = lines.all; lines_few = lines.few; uncrowded = lines.uncrowded }))
 
 abbrev pub some_text : Program → Option Program
 some_text Q = Some Q
@@ -816,16 +867,13 @@ some_text Q = Some Q
 text_is : (P Q : Program) → some_text P ≡ some_text Q → P ≡ Q
 text_is P Q e = cc
 
-pub is_made : (Q : Program) (r : Option Program) → IsDeclared Q → r ≡ program_of Q.variables Q.instances Q.code → r ≡ Some Q
+pub is_made : (Q : Program) (r : Option Program) → IsDeclared Q → r ≡ program_of versions.Three Q.variables Q.instances Q.code → r ≡ Some Q
 is_made Q r is e =
-    let few = is.variables_few in
-    let a : ltb 512 (length Q.variables) ≡ false = le-ltb 512 (length Q.variables) few in
-    let b : ltb 128 (length Q.instances) ≡ false = le-ltb 128 (length Q.instances) is.instances_few in
-    let c : ltb 4096 (length Q.code) ≡ false = le-ltb 4096 (length Q.code) is.lines_few in
-    e ∙ rw (a, b, c) refl
+    let room = room_within versions.Three Q.variables Q.instances Q.code (record { variables = is.variables_few; instances = is.instances_few; code = is.lines_few; words = is.uncrowded }) in
+    e ∙ cond-true (has_room versions.Three Q.variables Q.instances Q.code) (Some Q) None room
 
-pub never_none : (Q : Program) (r : Option Program) → IsDeclared Q → r ≡ program_of Q.variables Q.instances Q.code → r ≡ None → ⊥
+pub never_none : (Q : Program) (r : Option Program) → IsDeclared Q → r ≡ program_of versions.Three Q.variables Q.instances Q.code → r ≡ None → ⊥
 never_none Q r is e none = let f : None ≡ some_text Q = sym none ∙ is_made Q r is e in absurd cc
 
-pub is_text : (Q P : Program) (r : Option Program) → IsDeclared Q → r ≡ program_of Q.variables Q.instances Q.code → r ≡ Some P → IsDeclared P
+pub is_text : (Q P : Program) (r : Option Program) → IsDeclared Q → r ≡ program_of versions.Three Q.variables Q.instances Q.code → r ≡ Some P → IsDeclared P
 is_text Q P r is e some = subst IsDeclared (text_is Q P (sym (is_made Q r is e) ∙ some)) is

@@ -1,6 +1,6 @@
 -- The walk over instruction lines ends at the first of their faults, and else has their instructions; and so the walk over a text.
-use Rattle.std.proofs.Common.{◌≡◌, ℕ, suc, Bool, true, false, cond, leb, List, [], ◌∷◌, ◌++◌, length, Option, Some, None, Ok, Err, refl, sym, ap, subst, ◌∙◌, not, ◌||◌}
-use Rattle.std.specs.Prelude.{is_none, nat_le}
+use Rattle.std.proofs.Common.{◌≡◌, ℕ, suc, ◌+◌, Bool, true, false, cond, List, [], ◌∷◌, ◌++◌, length, Option, Some, None, Ok, Err, refl, sym, ap, subst, ◌∙◌, not, ◌||◌, arith}
+use Rattle.std.specs.Prelude.{is_none}
 use Rattle.std.specs.List.{flat_map, AllZip}
 use Rattle.std.specs.Option.{option_map}
 use Rattle.il_model.specs.declared.dialect.Dialect.{Dialect}
@@ -20,9 +20,10 @@ use Rattle.il_reader.specs.Grammar.{OperandText, Constant, Direct, Named, Field,
 use Rattle.il_declarations.specs.declared.fault.DeclKind.{DeclKind}
 use Rattle.il_declarations.specs.declared.fault.DeclKind.TheVariants as kinds
 use Rattle.il_declarations.specs.declared.fault.FaultAt.{FaultAt}
-use Rattle.il_declarations.specs.Resolution.{capitals, opens, with_opening, plain}
+use Rattle.il_model.specs.Marks.{word_count, words_in}
+use Rattle.il_declarations.specs.Resolution.{capitals, opens, with_opening, plain, are_too_many}
 use Rattle.il_declarations.specs.Walk.{◌>>=◌, each, refused, nothing, has_instance, declare_block, direct, constant, field_named, operand_of, behind_of, argument_of, pushed_argument, behind_arguments, instruction_of, room, label_of, instruct_labelled, instruct_plain, instruct, program_at}
-use Rattle.il_declarations.specs.Declaring.{DeclaredName, names_of, value_operand, field_or, operand_in, operand_behind, arguments_behind, IsArgumentOf, IsBehindLabel, IsInstructionOf, IsProgramOf}
+use Rattle.il_declarations.specs.Declaring.{DeclaredName, names_of, value_operand, field_or, operand_in, operand_behind, arguments_behind, operation_words, line_words, text_words, IsArgumentOf, IsOperationOf, IsBehindLabel, IsInstructionOf, IsProgramOf}
 use Rattle.il_declarations.specs.TextFaults.{names_field}
 use Rattle.il_declarations.proofs.FaultList.{when, beside, operand_faults, behind_faults, operation_faults, line_faults, faults_of}
 use Rattle.il_declarations.proofs.Agreeing.{Agrees, done, ok_is, then_agrees, made_agrees, last_agrees, each_agrees, each_kept, bind_ok, each_by_itself}
@@ -199,8 +200,34 @@ instruction_gives dialect names label (Some o) x e =
     subst (IsGiven dialect names label (Some o)) (ok_is (instruction label o a.0 b.0) x b.2)
     (record { label = refl; is = record { op = refl; modifier = refl; operand = behind_gives dialect names o.behind a.0 a.1; arguments = arguments_given dialect names o.behind b.0 b.1 } })
 
-room_agrees : (dialect : Dialect) (names : List DeclaredName) → (before : List LineText) (code : List Instr) (left : ℕ) → AllZip (IsInstructionOf dialect names) before code → Agrees (room code left) (when (nat_le 4096 (length before)) kinds.TooMany left)
-room_agrees dialect names before code left all = last_agrees _ _ (ap (leb 4096) (zip_length (IsInstructionOf dialect names) before code all)) kinds.TooMany left tt
+-- ---- the words of a line
+
+operation_long : (dialect : Dialect) (names : List DeclaredName) (o : OperationText) (x : Instr) → IsOperationOf dialect names o x → word_count x ≡ operation_words (Some o)
+operation_long dialect names o x is = ap (λ (n : ℕ). 1 + n) (zip_length (IsArgumentOf dialect names) (arguments_behind o.behind) x.arguments is.arguments)
+
+behind_long : (dialect : Dialect) (names : List DeclaredName) (o : Option OperationText) (x : Instr) → IsBehindLabel dialect names o x → word_count x ≡ operation_words o
+behind_long dialect names None x is = ap (λ (args : List Argument). 1 + length args) is.arguments
+behind_long dialect names (Some o) x is = operation_long dialect names o x is
+
+line_long : (dialect : Dialect) (names : List DeclaredName) (l : LineText) (x : Instr) → IsInstructionOf dialect names l x → word_count x ≡ line_words l
+line_long dialect names (Labelled t o) x is = behind_long dialect names o x is.1
+line_long dialect names (Plain o) x is = operation_long dialect names o x is.1
+
+lines_long : (dialect : Dialect) (names : List DeclaredName) (ls : List LineText) (code : List Instr) → AllZip (IsInstructionOf dialect names) ls code → words_in code ≡ text_words ls
+lines_long dialect names [] [] all = refl
+lines_long dialect names [] (x ∷ code) all = absurd all
+lines_long dialect names (l ∷ ls) [] all = absurd all
+lines_long dialect names (l ∷ ls) (x ∷ code) all =
+    let one = line_long dialect names l x all.0 in
+    let more = lines_long dialect names ls code all.1 in
+    omega (arith, one, more)
+
+room_agrees : (dialect : Dialect) (names : List DeclaredName) → (before : List LineText) (code : List Instr) (words left : ℕ) → AllZip (IsInstructionOf dialect names) before code
+    → Agrees (room dialect code words left) (when (are_too_many dialect (suc (length before)) (text_words before + words)) kinds.TooMany left)
+room_agrees dialect names before code words left all =
+    let count = zip_length (IsInstructionOf dialect names) before code all in
+    let sum = lines_long dialect names before code all in
+    last_agrees _ _ (ap (λ (n : ℕ). are_too_many dialect (suc n) (words_in code + words)) count ∙ ap (λ (n : ℕ). are_too_many dialect (suc (length before)) (n + words)) sum) kinds.TooMany left tt
 
 label_agrees : (t : Token) → Agrees (label_of t) (when (is_reserved (capitals t.text)) kinds.ReservedName t.left)
 label_agrees t = last_agrees (is_reserved (capitals t.text)) _ refl kinds.ReservedName t.left (capitals t.text)
@@ -215,14 +242,14 @@ label_gives t name e = chosen (is_reserved (capitals t.text)) e
 labelled_agrees : (dialect : Dialect) → (names : List DeclaredName) (before : List LineText) (code : List Instr) (t : Token) (o : Option OperationText) → AllZip (IsInstructionOf dialect names) before code → Agrees (instruct_labelled dialect (made dialect names) code t o) (line_faults dialect names before (Labelled t o))
 unfolding instruct_labelled
 labelled_agrees dialect names before code t o all =
-    then_agrees (label_of t) (λ label. room code t.left >>= λ here. instruction_of dialect (made dialect names) (Some label) o >>= λ line. Ok (code ++ line ∷ [])) _ _ (label_agrees t)
-    (λ label e. then_agrees (room code t.left) (λ here. instruction_of dialect (made dialect names) (Some label) o >>= λ line. Ok (code ++ line ∷ [])) _ _ (room_agrees dialect names before code t.left all)
+    then_agrees (label_of t) (λ label. room dialect code (operation_words o) t.left >>= λ here. instruction_of dialect (made dialect names) (Some label) o >>= λ line. Ok (code ++ line ∷ [])) _ _ (label_agrees t)
+    (λ label e. then_agrees (room dialect code (operation_words o) t.left) (λ here. instruction_of dialect (made dialect names) (Some label) o >>= λ line. Ok (code ++ line ∷ [])) _ _ (room_agrees dialect names before code (operation_words o) t.left all)
     (λ here f. made_agrees (instruction_of dialect (made dialect names) (Some label) o) (λ line. code ++ line ∷ []) _ (instruction_agrees dialect names (Some label) o)))
 
 plain_agrees : (dialect : Dialect) → (names : List DeclaredName) (before : List LineText) (code : List Instr) (o : OperationText) → AllZip (IsInstructionOf dialect names) before code → Agrees (instruct_plain dialect (made dialect names) code o) (line_faults dialect names before (Plain o))
 unfolding instruct_plain
 plain_agrees dialect names before code o all =
-    then_agrees (room code o.operator.left) (λ here. instruction_of dialect (made dialect names) None (Some o) >>= λ line. Ok (code ++ line ∷ [])) _ _ (room_agrees dialect names before code o.operator.left all)
+    then_agrees (room dialect code (operation_words (Some o)) o.operator.left) (λ here. instruction_of dialect (made dialect names) None (Some o) >>= λ line. Ok (code ++ line ∷ [])) _ _ (room_agrees dialect names before code (operation_words (Some o)) o.operator.left all)
     (λ here f. made_agrees (instruction_of dialect (made dialect names) None (Some o)) (λ line. code ++ line ∷ []) _ (instruction_agrees dialect names None (Some o)))
 
 line_agrees : (dialect : Dialect) → (names : List DeclaredName) (before : List LineText) (l : LineText) (code : List Instr) → AllZip (IsInstructionOf dialect names) before code → Agrees (instruct dialect (made dialect names) code l) (line_faults dialect names before l)
@@ -232,8 +259,8 @@ line_agrees dialect names before (Plain o) code all = plain_agrees dialect names
 labelled_kept : (dialect : Dialect) → (names : List DeclaredName) (before : List LineText) (code more : List Instr) (t : Token) (o : Option OperationText) → AllZip (IsInstructionOf dialect names) before code → instruct_labelled dialect (made dialect names) code t o ≡ Ok more → AllZip (IsInstructionOf dialect names) (before ++ Labelled t o ∷ []) more
 unfolding instruct_labelled
 labelled_kept dialect names before code more t o all e =
-    let a = bind_ok (label_of t) (λ label. room code t.left >>= λ here. instruction_of dialect (made dialect names) (Some label) o >>= λ line. Ok (code ++ line ∷ [])) more e in
-    let b = bind_ok (room code t.left) (λ here. instruction_of dialect (made dialect names) (Some a.0) o >>= λ line. Ok (code ++ line ∷ [])) more a.2 in
+    let a = bind_ok (label_of t) (λ label. room dialect code (operation_words o) t.left >>= λ here. instruction_of dialect (made dialect names) (Some label) o >>= λ line. Ok (code ++ line ∷ [])) more e in
+    let b = bind_ok (room dialect code (operation_words o) t.left) (λ here. instruction_of dialect (made dialect names) (Some a.0) o >>= λ line. Ok (code ++ line ∷ [])) more a.2 in
     let c = bind_ok (instruction_of dialect (made dialect names) (Some a.0) o) (λ line. Ok (code ++ line ∷ [])) more b.2 in
     let g = instruction_gives dialect names (Some a.0) o c.0 c.1 in
     subst (λ (xs : List Instr). AllZip (IsInstructionOf dialect names) (before ++ Labelled t o ∷ []) xs) (ok_is (code ++ c.0 ∷ []) more c.2)
@@ -242,7 +269,7 @@ labelled_kept dialect names before code more t o all e =
 plain_kept : (dialect : Dialect) → (names : List DeclaredName) (before : List LineText) (code more : List Instr) (o : OperationText) → AllZip (IsInstructionOf dialect names) before code → instruct_plain dialect (made dialect names) code o ≡ Ok more → AllZip (IsInstructionOf dialect names) (before ++ Plain o ∷ []) more
 unfolding instruct_plain
 plain_kept dialect names before code more o all e =
-    let b = bind_ok (room code o.operator.left) (λ here. instruction_of dialect (made dialect names) None (Some o) >>= λ line. Ok (code ++ line ∷ [])) more e in
+    let b = bind_ok (room dialect code (operation_words (Some o)) o.operator.left) (λ here. instruction_of dialect (made dialect names) None (Some o) >>= λ line. Ok (code ++ line ∷ [])) more e in
     let c = bind_ok (instruction_of dialect (made dialect names) None (Some o)) (λ line. Ok (code ++ line ∷ [])) more b.2 in
     let g = instruction_gives dialect names None (Some o) c.0 c.1 in
     subst (λ (xs : List Instr). AllZip (IsInstructionOf dialect names) (before ++ Plain o ∷ []) xs) (ok_is (code ++ c.0 ∷ []) more c.2) (zip_push (IsInstructionOf dialect names) before code (Plain o) c.0 all (g.label, g.is))

@@ -12,3 +12,4 @@ pub mod Ordered
 pub mod FaultRules
 pub mod FaultLaws
 pub mod WorkedFaults
+pub mod Rooms

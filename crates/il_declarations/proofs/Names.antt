@@ -5,6 +5,8 @@ use Rattle.std.specs.List.{filter, filter_map, list_any, position, cons_option}
 use Rattle.std.specs.Option.{option_map}
 use Rattle.std.proofs.lemmas.List.{append-nil}
 use Rattle.std.proofs.lemmas.List.Elements.{filter_map-append}
+use Rattle.il_model.specs.Limits.{most_variables, most_instances}
+use Rattle.il_model.specs.Dialects.{newest}
 use Rattle.il_model.specs.declared.dialect.Dialect.{Dialect}
 use Rattle.il_values.specs.declared.value.Ty.{Ty}
 use Rattle.il_values.specs.declared.value.Ty.TheVariants as types
@@ -173,10 +175,10 @@ instances_counted dialect (x ∷ xs) = step (type_in dialect x.by) (instances_co
     step (Some (Elementary type)) more = more
     step (Some (Block kind)) more = ap suc more
 
-pub room_known : (dialect : Dialect) → (names : List DeclaredName) (o : Option DeclaredType) → is_full o (made dialect names) ≡ has_no_room dialect o names
+pub room_known : (dialect : Dialect) → (names : List DeclaredName) (o : Option DeclaredType) → is_full dialect o (made dialect names) ≡ has_no_room dialect o names
 room_known dialect names None = refl
-room_known dialect names (Some (Elementary type)) = ap (leb 512) (variables_counted dialect names)
-room_known dialect names (Some (Block kind)) = ap (leb 128) (instances_counted dialect names)
+room_known dialect names (Some (Elementary type)) = ap (leb (most_variables (newest dialect))) (variables_counted dialect names)
+room_known dialect names (Some (Block kind)) = ap (leb (most_instances (newest dialect))) (instances_counted dialect names)
 
 -- ---- one name more
 

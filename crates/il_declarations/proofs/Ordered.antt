@@ -1,6 +1,6 @@
 -- The faults of a text stand in the order of the text, and at one place in the order of their numbers.
 use Rattle.std.proofs.Common.{◌≡◌, inl, inr, ℕ, suc, ◌<◌, ◌≤◌, Bool, true, false, List, [], ◌∷◌, ◌++◌, length, map, Option, Some, None, refl, sym, ap, subst, arith, not, append_assoc, ◌||◌}
-use Rattle.std.specs.Prelude.{is_none, nat_le}
+use Rattle.std.specs.Prelude.{is_none}
 use Rattle.std.specs.List.{flat_map, AllByRecursion}
 use Rattle.std.proofs.lemmas.List.{append-nil}
 use Rattle.il_model.specs.declared.dialect.Dialect.{Dialect}
@@ -20,7 +20,7 @@ use Rattle.il_declarations.specs.declared.fault.FaultAt.{FaultAt}
 use Rattle.il_declarations.specs.FirstFault.{kind_number, IsNoLater}
 use Rattle.il_declarations.specs.Resolution.{capitals, suits, written_value}
 use Rattle.il_declarations.specs.Declaring.{DeclaredName, BlockDeclaration, in_block, declarations_in, named_in, other_names, names_in, names_of, type_in, written_location, is_declared, names_variable, names_instance, arguments_behind, is_shadowed}
-use Rattle.il_declarations.specs.TextFaults.{has_no_room, is_overlapping, names_field}
+use Rattle.il_declarations.specs.TextFaults.{has_no_room, is_past_room, is_overlapping, names_field}
 use Rattle.il_declarations.proofs.Agreeing.{beside_append}
 use Rattle.il_declarations.proofs.FaultList.{when, beside, name_faults, place_faults, location_faults, start_faults, declaration_faults, operand_faults, behind_faults, operation_faults, line_faults, faults_of, Among}
 use Rattle.il_declarations.proofs.Falling.{Falls, split, at_most, text_falls, operator_at}
@@ -269,10 +269,10 @@ content_ordered : (dialect : Dialect) → (names : List DeclaredName) (before : 
 content_ordered dialect names before (Plain o) n m falls =
     let h = split n (spelled_operation dialect o) (ahead is_line_stop ∷ []) m falls in
     let g = operation_ordered dialect names o n h.0 h.1 in
-    wider n h.0 m _ (both n o.operator.left h.0 _ _ (one_fault n o.operator.left (nat_le 4096 (length before)) kinds.TooMany g.above) g.operands) h.2
+    wider n h.0 m _ (both n o.operator.left h.0 _ _ (one_fault n o.operator.left (is_past_room dialect before (Plain o)) kinds.TooMany g.above) g.operands) h.2
 content_ordered dialect names before (Labelled t o) n m falls =
     let h = split t.left (spelled_optional_operation dialect o) (ahead is_line_stop ∷ []) m falls.1 in
-    let many = nat_le 4096 (length before) in
+    let many = is_past_room dialect before (Labelled t o) in
     let reserved = is_reserved (capitals t.text) in
     let label = more_faults n t.left reserved kinds.ReservedName (when many kinds.TooMany t.left) falls.0 (one_fault n t.left many kinds.TooMany falls.0) (here _ many kinds.TooMany t.left (refl, omega arith)) in
     subst (λ (fs : List FaultAt). Ordered n fs m) (append_assoc (when reserved kinds.ReservedName t.left) (when many kinds.TooMany t.left) (operation_faults dialect names o))

@@ -1,6 +1,6 @@
 -- What a text declares: the names of its declarations in the order of the text, and the program of which they are the
 -- variables and the instances, with an instruction for each line.
-use Rattle.std.specs.Prelude.{◌≡◌, ℕ, List, [], ◌∷◌, map, Option, Some, None, Bool, true, false, not, ◌&&◌}
+use Rattle.std.specs.Prelude.{◌≡◌, ℕ, ◌+◌, List, [], ◌∷◌, length, map, Option, Some, None, Bool, true, false, not, ◌&&◌}
 use Rattle.std.specs.Prelude.{if◌then◌else◌}
 use Rattle.std.specs.List.{flat_map, filter_map, list_any, AllZip}
 use Rattle.std.specs.Option.{option_map}
@@ -176,6 +176,19 @@ operand_behind dialect names (Called c) = Some (operands.Instance (capitals c.in
 abbrev pub arguments_behind : BehindText → List ArgumentText
 arguments_behind (Called c) = arguments_of c
 arguments_behind b = []
+
+-- how many words an instruction has: one, and one for each argument
+abbrev pub operation_words : Option OperationText → ℕ
+operation_words None = 1
+operation_words (Some o) = 1 + length (arguments_behind o.behind)
+
+abbrev pub line_words : LineText → ℕ
+line_words (Labelled t o) = operation_words o
+line_words (Plain o) = operation_words (Some o)
+
+abbrev pub text_words : List LineText → ℕ
+text_words [] = 0
+text_words (l ∷ ls) = line_words l + text_words ls
 
 -- the argument that is written
 pub record IsArgumentOf (dialect : Dialect) (names : List DeclaredName) (a : ArgumentText) (x : Argument) : Type 0 where

@@ -1,9 +1,10 @@
 -- What the words of a declaration and of an instruction stand for, and what a call answered.
 use Rattle.std.specs.Prelude.{◌≡◌, ℕ, List, map, Option, Some, None, Result, Ok, Err, Bool, true, false, not}
-use Rattle.std.specs.Prelude.{if◌then◌else◌, codes}
+use Rattle.std.specs.Prelude.{if◌then◌else◌, codes, ◌||◌, nat_lt}
 use Rattle.il_model.specs.declared.dialect.Dialect.{Dialect}
 use Rattle.il_model.specs.declared.dialect.Dialect.TheVariants as dialects
-use Rattle.il_model.specs.Dialects.{literal_in}
+use Rattle.il_model.specs.Dialects.{literal_in, newest}
+use Rattle.il_model.specs.Limits.{most_instructions, is_crowded}
 use Rattle.il_values.specs.declared.value.Ty.{Ty}
 use Rattle.il_values.specs.declared.value.Ty.TheVariants as types
 use Rattle.il_values.specs.declared.value.Value.{Value}
@@ -108,3 +109,10 @@ Refuses (errors.Fault f) given = given ≡ Err f
 abbrev pub Answers : {X : Type 0} → (X → Program) → Result X DeclError → Result Program Fault → Type 0
 Answers view (Ok x) given = given ≡ Ok (view x)
 Answers view (Err e) given = Refuses e given
+
+-- ---- how much a program may have
+
+-- so many instructions, with so many words, are more than a text of the dialect may have
+abbrev pub are_too_many : Dialect → ℕ → ℕ → Bool
+are_too_many dialect instructions words =
+    nat_lt (most_instructions (newest dialect)) instructions || is_crowded instructions words

@@ -1,11 +1,11 @@
 -- The faults that a text has, each told of one name, one declaration or one instruction line beside what stands before
 -- it.
-use Rattle.std.specs.Prelude.{◌≡◌, ◌⊎◌, ℕ, List, [], ◌∷◌, ◌++◌, length, map, Option, Some, None, is_none, Bool, true}
+use Rattle.std.specs.Prelude.{◌≡◌, ◌⊎◌, ℕ, suc, ◌+◌, List, [], ◌∷◌, ◌++◌, length, map, Option, Some, None, is_none, Bool, true}
 use Rattle.std.specs.Prelude.{false, not, ◌||◌, nat_le}
 use Rattle.std.specs.List.{flat_map, filter, list_any}
 use Rattle.il_model.specs.declared.dialect.Dialect.{Dialect}
-use Rattle.il_model.specs.Dialects.{literal_in, location_in}
-use Rattle.il_model.specs.declared.limits.TheConstants.{MOST_VARIABLES, MOST_INSTANCES, MOST_INSTRUCTIONS}
+use Rattle.il_model.specs.Dialects.{literal_in, location_in, newest}
+use Rattle.il_model.specs.Limits.{most_variables, most_instances}
 use Rattle.il_model.specs.declared.program.Loc.{Loc}
 use Rattle.il_model.specs.Words.{is_reserved, split_last}
 use Rattle.il_model.specs.CodedOperands.{loc_code}
@@ -19,10 +19,10 @@ use Rattle.il_declarations.specs.declared.variables.DeclaredType.TheVariants as 
 use Rattle.il_declarations.specs.declared.fault.DeclKind.{DeclKind}
 use Rattle.il_declarations.specs.declared.fault.DeclKind.TheVariants as kinds
 use Rattle.il_declarations.specs.declared.fault.FaultAt.{FaultAt}
-use Rattle.il_declarations.specs.Resolution.{capitals, suits, written_value}
+use Rattle.il_declarations.specs.Resolution.{capitals, suits, written_value, are_too_many}
 use Rattle.il_declarations.specs.Declaring.{DeclaredName, names_in, declarations_of, names_of, type_in, is_instance}
 use Rattle.il_declarations.specs.Declaring.{is_variable, written_location, is_declared, names_variable, names_instance}
-use Rattle.il_declarations.specs.Declaring.{is_occupied, is_shadowed}
+use Rattle.il_declarations.specs.Declaring.{is_occupied, is_shadowed, line_words, text_words}
 
 -- in a list there is an item for which this holds, with those before it
 pub record Somewhere {X : Type 0} (P : List X → X → Type 0) (xs : List X) : Type 0 where
@@ -39,9 +39,9 @@ pub record Somewhere {X : Type 0} (P : List X → X → Type 0) (xs : List X) : 
 abbrev pub has_no_room : Dialect → Option DeclaredType → List DeclaredName → Bool
 has_no_room dialect None before = false
 has_no_room dialect (Some (declared.Elementary type)) before =
-    nat_le MOST_VARIABLES (length (filter (is_variable dialect) before))
+    nat_le (most_variables (newest dialect)) (length (filter (is_variable dialect) before))
 has_no_room dialect (Some (declared.Block kind)) before =
-    nat_le MOST_INSTANCES (length (filter (is_instance dialect) before))
+    nat_le (most_instances (newest dialect)) (length (filter (is_instance dialect) before))
 
 -- it is no location, or none of the type
 abbrev pub is_no_place : Option DeclaredType → Option Loc → Bool
@@ -119,6 +119,10 @@ abbrev pub begins_at : LineText → ℕ
 begins_at (Labelled t o) = t.left
 begins_at (Plain o) = o.operator.left
 
+-- with this line there are more lines, or words, than a program may have
+abbrev pub is_past_room : Dialect → List LineText → LineText → Bool
+is_past_room dialect before l = are_too_many dialect (suc (length before)) (text_words before + line_words l)
+
 -- ---- the faults
 
 -- a name that a text declares is of this sort, beside those before it, and stands there
@@ -167,10 +171,11 @@ HasFaultOf dialect p kinds.BadInitial left = SomeStart dialect p left (is_bad_st
 HasFaultOf dialect p kinds.ReservedName left = SomeName p left (λ before x. is_reserved (capitals x.name.text))
     ⊎ Somewhere (λ before l. (t : Token) × (o : Option OperationText) × (l ≡ Labelled t o) × (left ≡ t.left)
     × (is_reserved (capitals t.text) ≡ true)) p.lines
--- There are as many variables, instances or lines before it as a program may have.
+-- There are as many variables or instances before it as a program may have, or with the line there are too many lines,
+-- or words.
 HasFaultOf dialect p kinds.TooMany left =
     SomeName p left (λ before x. has_no_room dialect (type_in dialect x.by) before)
-    ⊎ Somewhere (λ before l. (left ≡ begins_at l) × (nat_le MOST_INSTRUCTIONS (length before) ≡ true)) p.lines
+    ⊎ Somewhere (λ before l. (left ≡ begins_at l) × (is_past_room dialect before l ≡ true)) p.lines
 
 -- a text has a fault of a kind where so many bytes are left
 abbrev pub HasFault : Dialect → ProgramText → FaultAt → Type 0

@@ -1,12 +1,12 @@
 -- The walk over a text that private functions take: declarations before instructions, and what is asked of a name or of
 -- a location is asked of those before it. No public clause cites it: what `resolve` answers is said by Declaring and
 -- FirstFault.
-use Rattle.std.specs.Prelude.{◌≡◌, ℕ, List, [], ◌∷◌, ◌++◌, length, Option, Some, None, is_some, unwrap_or, Result, Ok}
+use Rattle.std.specs.Prelude.{◌≡◌, ℕ, suc, ◌+◌, List, [], ◌∷◌, ◌++◌, length, Option, Some, None, is_some, unwrap_or, Result, Ok}
 use Rattle.std.specs.Prelude.{Err, Bool, false, ◌||◌, nat_le, if◌then◌else◌}
 use Rattle.il_model.specs.declared.dialect.Dialect.{Dialect}
 use Rattle.il_reader.specs.Grammar.{dialect_of}
-use Rattle.il_model.specs.Dialects.{literal_in, location_in}
-use Rattle.il_model.specs.declared.limits.TheConstants.{MOST_VARIABLES, MOST_INSTANCES, MOST_INSTRUCTIONS}
+use Rattle.il_model.specs.Dialects.{literal_in, location_in, newest}
+use Rattle.il_model.specs.Limits.{most_variables, most_instances}
 use Rattle.il_values.specs.declared.value.Ty.{Ty}
 use Rattle.il_values.specs.declared.value.Ty.TheVariants as types
 use Rattle.il_values.specs.declared.value.Value.{Value}
@@ -23,6 +23,7 @@ use Rattle.il_model.specs.declared.program.Argument.{Argument}
 use Rattle.il_model.specs.declared.program.Instr.{Instr}
 use Rattle.il_model.specs.Program.{Program, Declarations}
 use Rattle.il_model.specs.Resolved.{instance_in}
+use Rattle.il_model.specs.Marks.{words_in}
 use Rattle.std.specs.List.{list_any}
 use Rattle.il_model.specs.Words.{is_reserved, split_last, stands_under}
 use Rattle.il_values.specs.Values.{zero_of}
@@ -42,8 +43,8 @@ use Rattle.il_declarations.specs.declared.fault.Failure.{Failure}
 use Rattle.il_declarations.specs.declared.fault.Failure.TheVariants as failures
 use Rattle.il_declarations.specs.declared.fault.Fault.{Fault}
 use Rattle.il_declarations.specs.Resolution.{capitals, declared_type, suits, place_as, variable, written_value, opens}
-use Rattle.il_declarations.specs.Resolution.{with_opening, plain}
-use Rattle.il_declarations.specs.Declaring.{BlockDeclaration, declarations_in}
+use Rattle.il_declarations.specs.Resolution.{with_opening, plain, are_too_many}
+use Rattle.il_declarations.specs.Declaring.{BlockDeclaration, declarations_in, operation_words}
 
 infixl 10 ◌>>=◌
 abbrev pub ◌>>=◌ : {A B : Type 0} → Result A FaultAt → (A → Result B FaultAt) → Result B FaultAt
@@ -82,10 +83,12 @@ abbrev pub has_instance : Declarations → List ℕ → Bool
 has_instance known name = is_some (instance_in known.instances name)
 
 -- there are as many variables, or instances, as a program may have; behind an unknown type nothing stands
-abbrev pub is_full : Option DeclaredType → Declarations → Bool
-is_full None known = false
-is_full (Some (declared.Elementary type)) known = nat_le MOST_VARIABLES (length known.variables)
-is_full (Some (declared.Block kind)) known = nat_le MOST_INSTANCES (length known.instances)
+abbrev pub is_full : Dialect → Option DeclaredType → Declarations → Bool
+is_full dialect None known = false
+is_full dialect (Some (declared.Elementary type)) known =
+    nat_le (most_variables (newest dialect)) (length known.variables)
+is_full dialect (Some (declared.Block kind)) known =
+    nat_le (most_instances (newest dialect)) (length known.instances)
 
 -- a variable and an instance under whose name it stands
 abbrev pub is_shadowed : Option DeclaredType → Declarations → List ℕ → Bool
@@ -93,12 +96,12 @@ is_shadowed (Some (declared.Block kind)) known name = has_under known.variables 
 is_shadowed type known name = list_any (λ (x : Instance). stands_under x.name name) known.instances
 
 -- a name in capital letters, which no variable and no instance before it has, nor a variable under an instance
-unfoldable pub new_name : Option DeclaredType → Declarations → Token → Result (List ℕ) FaultAt
-new_name type known t =
+unfoldable pub new_name : Dialect → Option DeclaredType → Declarations → Token → Result (List ℕ) FaultAt
+new_name dialect type known t =
     if has_name known (capitals t.text) || has_instance known (capitals t.text)
     || is_shadowed type known (capitals t.text) then refused kinds.Duplicate t
     else if is_reserved (capitals t.text) then refused kinds.ReservedName t
-    else if is_full type known then refused kinds.TooMany t
+    else if is_full dialect type known then refused kinds.TooMany t
     else Ok (capitals t.text)
 
 abbrev pub free_loc : Option DeclaredType → Declarations → Token → Option Loc → Result Loc FaultAt
@@ -168,12 +171,13 @@ with_declared plan known name loc (Some (declared.Block kind)) =
     with_instance known (record { name = name; kind = kind; retained = plan.retained })
 
 -- a name of a list
-unfoldable pub declare_name : Plan → Declarations → Token → Result Declarations FaultAt
-declare_name plan known t = new_name plan.ty known t >>= λ name. Ok (with_declared plan known name None plan.ty)
+unfoldable pub declare_name : Dialect → Plan → Declarations → Token → Result Declarations FaultAt
+declare_name dialect plan known t =
+    new_name dialect plan.ty known t >>= λ name. Ok (with_declared plan known name None plan.ty)
 
 unfoldable pub declare_located : Dialect → Declarations → BlockDeclaration → Token → Result Declarations FaultAt
 declare_located dialect known d location = do
-  name ← new_name (declared_type dialect d.text.ty.text) known d.text.name
+  name ← new_name dialect (declared_type dialect d.text.ty.text) known d.text.name
   loc ← free_location dialect (declared_type dialect d.text.ty.text) known location
   type ← known_type dialect d.text.ty
   initial ← first_value dialect type (Some loc) d.text.initial
@@ -182,8 +186,8 @@ declare_located dialect known d location = do
 
 unfoldable pub declare_listed : Dialect → Declarations → BlockDeclaration → List Token → Result Declarations FaultAt
 declare_listed dialect known d more = do
-  first ← declare_name (plan_of dialect d) known d.text.name
-  named ← each (declare_name (plan_of dialect d)) first more
+  first ← declare_name dialect (plan_of dialect d) known d.text.name
+  named ← each (declare_name dialect (plan_of dialect d)) first more
   type ← known_type dialect d.text.ty
   initial ← first_value dialect type None d.text.initial
   Ok named
@@ -263,10 +267,10 @@ instruction_of dialect known label (Some o) =
       arguments = arguments;
     })
 
--- there is room for one instruction more, where the line begins that many bytes before the end
-abbrev pub room : List Instr → ℕ → Result (Unit {0}) FaultAt
-room code left = if nat_le MOST_INSTRUCTIONS (length code) then Err (record { kind = kinds.TooMany; left = left })
-    else Ok tt
+-- there is room for one instruction more, of so many words, where the line begins that many bytes before the end
+abbrev pub room : Dialect → List Instr → ℕ → ℕ → Result (Unit {0}) FaultAt
+room dialect code words left = if are_too_many dialect (suc (length code)) (words_in code + words)
+    then Err (record { kind = kinds.TooMany; left = left }) else Ok tt
 
 -- a label in capital letters; labels are a name space of their own, and a doubled one is found later
 abbrev pub label_of : Token → Result (List ℕ) FaultAt
@@ -276,13 +280,13 @@ unfoldable pub instruct_labelled : Dialect → Declarations → List Instr → T
     → Result (List Instr) FaultAt
 instruct_labelled dialect known code t o = do
   label ← label_of t
-  here ← room code t.left
+  here ← room dialect code (operation_words o) t.left
   line ← instruction_of dialect known (Some label) o
   Ok (code ++ line ∷ [])
 
 unfoldable pub instruct_plain : Dialect → Declarations → List Instr → OperationText → Result (List Instr) FaultAt
 instruct_plain dialect known code o = do
-  here ← room code o.operator.left
+  here ← room dialect code (operation_words (Some o)) o.operator.left
   line ← instruction_of dialect known None (Some o)
   Ok (code ++ line ∷ [])
 

@@ -1,21 +1,23 @@
 //! Instructions: labels, operators with their letters, operands by name, location, value or field, arguments of calls.
 
-ghost use Rattle.std.specs.Prelude.{◌≡◌, [], map, option_map, Some};
+ghost use Rattle.std.specs.Prelude.{◌≡◌, ◌<◌, [], map, option_map, Some};
 ghost use Rattle.il_reader.specs.Tokens.{token};
 ghost use Rattle.il_reader.specs.Grammar.{Named, Field, Called, operand, argument, call, behind, operation, line};
 ghost use Rattle.il_model.specs.Words.{split_last};
 ghost use Rattle.il_declarations.specs.Resolution.{opens, with_opening};
+ghost use Rattle.il_declarations.specs.Declaring.{operation_words};
 ghost use Rattle.il_declarations.specs.Walk.{Gives, constant, operand_of, field_named, optional_operand_of, behind_of};
 ghost use Rattle.il_declarations.specs.Walk.{argument_of, pushed_argument, behind_arguments, instruction_of, room};
 ghost use Rattle.il_declarations.specs.Walk.{label_of};
 ghost use Rattle.il_declarations.specs.Walk.{instruct_labelled, instruct_plain, instruct, each};
 
+use crate::coded::Coded;
 use crate::declared::Declared;
 use crate::fault::{DeclKind, Failure, FaultAt};
 use crate::variables::{capital_name, refused};
 use il_model::{
-    Argument, Arguments, Dialect, Instr, Literal, MOST_INSTRUCTIONS, Modifier, Name, Op, Operand,
-    is_reserved, split_last,
+    Argument, Arguments, Dialect, Instr, Literal, Modifier, Name, Op, Operand, is_reserved,
+    split_last,
 };
 use il_reader::{Behind, Call, Lexeme, Line, Operation};
 use std::alloc::Global;
@@ -284,10 +286,33 @@ fn labelled(
     }
 }
 
-fn has_room(code: &[Instr], left: usize) -> Result<(), Failure>
-    ensures { Gives (λ u. u) result (room code.now left) }
+/// How many words the instruction of an operation has.
+fn operation_words(written: &Operation) -> usize
+    ensures value { result ≡ operation_words (Some (operation written.now)) }
+    ensures some { 0 < result }
 {
-    if code.len() >= MOST_INSTRUCTIONS {
+    match &written.behind {
+        Behind::Called(call) => 1 + call.arguments().len(),
+        _ => 1,
+    }
+}
+
+/// The same; that of a label alone has one.
+fn words_of(written: Option<&Operation>) -> usize
+    ensures value { result ≡ operation_words (option_map (λ o. operation o.now) written.entry) }
+    ensures some { 0 < result }
+{
+    match written {
+        Some(o) => operation_words(o),
+        None => 1,
+    }
+}
+
+fn has_room(dialect: Dialect, code: &Coded, words: usize, left: usize) -> Result<(), Failure>
+    requires { 0 < words }
+    ensures { Gives (λ u. u) result (room dialect code.now words left) }
+{
+    if code.has_no_room_for(dialect, words) {
         Err(Failure::Refused(FaultAt {
             kind: DeclKind::TooMany,
             left,
@@ -313,16 +338,16 @@ fn push_labelled(
     dialect: Dialect,
     alloc: Global,
     known: &Declared,
-    code: &mut Vec<Instr>,
+    code: &mut Coded,
     t: Lexeme,
     written: Option<&Operation>,
 ) -> Result<(), Failure>
-    ensures { Gives (λ u. code.new.items) result
-        (instruct_labelled dialect known.now code.old.items (token t.entry)
+    ensures { Gives (λ u. code.new) result
+        (instruct_labelled dialect known.now code.old (token t.entry)
         (option_map (λ o. operation o.now) written.entry)) }
 {
     let label = lawful_label(alloc, t)?;
-    has_room(code.as_slice(), t.left)?;
+    has_room(dialect, code, words_of(written), t.left)?;
     code.push(labelled(dialect, alloc, known, label, written)?)?;
     Ok(())
 }
@@ -332,13 +357,18 @@ fn push_plain(
     dialect: Dialect,
     alloc: Global,
     known: &Declared,
-    code: &mut Vec<Instr>,
+    code: &mut Coded,
     written: &Operation,
 ) -> Result<(), Failure>
-    ensures { Gives (λ u. code.new.items) result
-        (instruct_plain dialect known.now code.old.items (operation written.now)) }
+    ensures { Gives (λ u. code.new) result
+        (instruct_plain dialect known.now code.old (operation written.now)) }
 {
-    has_room(code.as_slice(), written.operator.left)?;
+    has_room(
+        dialect,
+        code,
+        operation_words(written),
+        written.operator.left,
+    )?;
     code.push(instruction(dialect, alloc, known, None, written)?)?;
     Ok(())
 }
@@ -347,10 +377,10 @@ fn push_line(
     dialect: Dialect,
     alloc: Global,
     known: &Declared,
-    code: &mut Vec<Instr>,
+    code: &mut Coded,
     written: &Line,
 ) -> Result<(), Failure>
-    ensures { Gives (λ u. code.new.items) result (instruct dialect known.now code.old.items (line written.now)) }
+    ensures { Gives (λ u. code.new) result (instruct dialect known.now code.old (line written.now)) }
 {
     match written {
         Line::Labelled(t, o) => push_labelled(dialect, alloc, known, code, *t, o.as_ref()),
@@ -367,9 +397,9 @@ pub fn instructions(
 ) -> Result<Vec<Instr>, Failure>
     ensures { Gives (λ v. v.items) result (each (instruct dialect known.now) [] (map line lines.now)) }
 {
-    let mut code = Vec::new(alloc);
+    let mut code = Coded::new(alloc);
     for written in lines {
         push_line(dialect, alloc, known, &mut code, written)?;
     }
-    Ok(code)
+    Ok(code.into_vec())
 }

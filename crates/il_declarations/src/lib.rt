@@ -18,6 +18,7 @@
 //! Only tested: nothing; `texts.rows` of `tests_rows` has sources with their faults.
 #![tactic(auto)]
 
+mod coded;
 mod declared;
 mod fault;
 mod initial;

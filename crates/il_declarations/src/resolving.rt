@@ -12,7 +12,7 @@ use crate::declared::Declared;
 use crate::fault::{DeclError, Failure, Fault};
 use crate::instructions::instructions;
 use crate::variables::declare_block;
-use il_model::{Dialect, Program};
+use il_model::{Dialect, Program, Version};
 use il_reader::{Block, Source};
 use std::alloc::Global;
 
@@ -36,7 +36,7 @@ fn program(dialect: Dialect, alloc: Global, source: &Source) -> Result<Program, 
     let known = declared(dialect, alloc, source.blocks())?;
     let code = instructions(dialect, alloc, &known, source.lines())?;
     let (variables, instances) = known.into_parts();
-    match Program::new(variables, instances, code) {
+    match Program::new(Version::Three, variables, instances, code) {
         Some(program) => Ok(program),
         None => unreachable!(),
     }

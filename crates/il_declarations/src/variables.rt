@@ -15,8 +15,8 @@ use crate::declared::Declared;
 use crate::fault::{DeclKind, Failure, FaultAt};
 use crate::initial::{first_value, planned_value};
 use il_model::{
-    BlockKind, Dialect, Instance, Loc, MOST_INSTANCES, MOST_VARIABLES, Name, Ty, Value, Variable,
-    capital, is_reserved, is_spelled, is_type, loc_type, seen_as,
+    BlockKind, Dialect, Instance, Loc, Name, Ty, Value, Variable, capital, is_reserved, is_spelled,
+    is_type, loc_type, seen_as,
 };
 use il_reader::{Block, Declaration, Lexeme, Names};
 use std::alloc::{AllocError, Global};
@@ -112,12 +112,13 @@ fn declared_type(
     Ok(BlockKind::of_name(name.bytes()).map(DeclaredType::Block))
 }
 
-fn has_no_room(ty: Option<DeclaredType>, known: &Declared) -> bool
-    ensures { result ≡ is_full ty known.now }
+fn has_no_room(dialect: Dialect, ty: Option<DeclaredType>, known: &Declared) -> bool
+    ensures { result ≡ is_full dialect ty known.now }
 {
+    let version = dialect.newest();
     match ty {
-        Some(DeclaredType::Elementary(_)) => known.variable_count() >= MOST_VARIABLES,
-        Some(DeclaredType::Block(_)) => known.instance_count() >= MOST_INSTANCES,
+        Some(DeclaredType::Elementary(_)) => known.variable_count() >= version.most_variables(),
+        Some(DeclaredType::Block(_)) => known.instance_count() >= version.most_instances(),
         None => false,
     }
 }
@@ -134,19 +135,20 @@ fn is_shadowed(ty: Option<DeclaredType>, known: &Declared, name: &Name) -> bool
 
 #[tactic(auto, unfolding(crate::specs::Walk::new_name))]
 fn lawful_name(
+    dialect: Dialect,
     alloc: Global,
     ty: Option<DeclaredType>,
     known: &Declared,
     t: Lexeme,
 ) -> Result<Name, Failure>
-    ensures { Gives (λ n. n) result (new_name ty known.now (token t.entry)) }
+    ensures { Gives (λ n. n) result (new_name dialect ty known.now (token t.entry)) }
 {
     let name = capital_name(alloc, t.text)?;
     if known.is_variable(&name) || known.is_instance(&name) || is_shadowed(ty, known, &name) {
         Err(refused(DeclKind::Duplicate, t))
     } else if is_reserved(name.bytes()) {
         Err(refused(DeclKind::ReservedName, t))
-    } else if has_no_room(ty, known) {
+    } else if has_no_room(dialect, ty, known) {
         Err(refused(DeclKind::TooMany, t))
     } else {
         Ok(name)
@@ -253,24 +255,31 @@ fn push_declared(
 }
 
 #[tactic(auto, unfolding(crate::specs::Walk::declare_name))]
-fn push_name(alloc: Global, plan: Plan, known: &mut Declared, t: Lexeme) -> Result<(), Failure>
-    ensures { Gives (λ u. known.new) result (declare_name plan known.old (token t.entry)) }
+fn push_name(
+    dialect: Dialect,
+    alloc: Global,
+    plan: Plan,
+    known: &mut Declared,
+    t: Lexeme,
+) -> Result<(), Failure>
+    ensures { Gives (λ u. known.new) result (declare_name dialect plan known.old (token t.entry)) }
 {
-    let name = lawful_name(alloc, plan.ty, known, t)?;
+    let name = lawful_name(dialect, alloc, plan.ty, known, t)?;
     push_declared(alloc, plan, known, name, None)?;
     Ok(())
 }
 
 fn push_names(
+    dialect: Dialect,
     alloc: Global,
     plan: Plan,
     known: &mut Declared,
     names: &[Lexeme],
 ) -> Result<(), Failure>
-    ensures { Gives (λ u. known.new) result (each (declare_name plan) known.old (map token names.now)) }
+    ensures { Gives (λ u. known.new) result (each (declare_name dialect plan) known.old (map token names.now)) }
 {
     for name in names {
-        push_name(alloc, plan, known, *name)?;
+        push_name(dialect, alloc, plan, known, *name)?;
     }
     Ok(())
 }
@@ -288,7 +297,7 @@ fn declare_at(
         (declare_located dialect known.old (in_block retained (declaration d.now)) (token at.entry)) }
 {
     let written = declared_type(dialect, alloc, d.ty.text)?;
-    let name = lawful_name(alloc, written, known, d.name)?;
+    let name = lawful_name(dialect, alloc, written, known, d.name)?;
     let loc = unoccupied(dialect, written, known, at)?;
     let ty = known_type(written, d.ty)?;
     let initial = first_value(dialect, ty, Some(loc), d.initial)?;
@@ -315,8 +324,8 @@ fn declare_names(
 {
     let written = declared_type(dialect, alloc, d.ty.text)?;
     let plan = planned(dialect, written, retained, d);
-    push_name(alloc, plan, known, d.name)?;
-    push_names(alloc, plan, known, more)?;
+    push_name(dialect, alloc, plan, known, d.name)?;
+    push_names(dialect, alloc, plan, known, more)?;
     let ty = known_type(written, d.ty)?;
     first_value(dialect, ty, None, d.initial)?;
     Ok(())

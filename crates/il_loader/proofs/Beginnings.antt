@@ -7,6 +7,7 @@ use Rattle.std.proofs.lemmas.List.{length-append}
 use Rattle.il_values.specs.declared.value.Ty.{Ty}
 use Rattle.il_values.specs.declared.value.Value.{Value}
 use Rattle.il_model.specs.declared.codes.Version.{Version}
+use Rattle.il_model.specs.Limits.{most_variables, most_instances, most_instructions, most_constants}
 use Rattle.il_model.specs.declared.program.Loc.{Loc}
 use Rattle.il_model.specs.declared.program.Variable.{Variable}
 use Rattle.il_model.specs.declared.program.Instance.{Instance}
@@ -108,13 +109,13 @@ signed_grows version bytes more = binds (grown more) _ _ _ _ _ (number_grows (nu
 count_grows : (limit : ℕ) (bytes more : List ℕ) → Grows (grown more) (count_at limit bytes) (count_at limit (bytes ++ more))
 count_grows limit bytes more = binds (grown more) _ _ _ _ _ (number_grows w16 bytes more) (λ n. binds id_at _ _ _ _ _ (agrees_grows BadCount BadCount (nat_le n.0 limit)) (λ u. refl))
 
-counts_grow : (bytes more : List ℕ) → Grows (grown more) (counts_at bytes) (counts_at (bytes ++ more))
+counts_grow : (version : Version) (bytes more : List ℕ) → Grows (grown more) (counts_at version bytes) (counts_at version (bytes ++ more))
 unfolding counts_at
-counts_grow bytes more =
-    binds (grown more) _ _ _ _ _ (count_grows 512 bytes more) (λ a.
-    binds (grown more) _ _ _ _ _ (count_grows 128 a.1 more) (λ b.
-    binds (grown more) _ _ _ _ _ (count_grows 4096 b.1 more) (λ c.
-    binds (grown more) _ _ _ _ _ (count_grows 20480 c.1 more) (λ d.
+counts_grow version bytes more =
+    binds (grown more) _ _ _ _ _ (count_grows (most_variables version) bytes more) (λ a.
+    binds (grown more) _ _ _ _ _ (count_grows (most_instances version) a.1 more) (λ b.
+    binds (grown more) _ _ _ _ _ (count_grows (most_instructions version) b.1 more) (λ c.
+    binds (grown more) _ _ _ _ _ (count_grows (most_constants version) c.1 more) (λ d.
     binds (grown more) _ _ _ _ _ (count_grows 36864 d.1 more) (λ e. refl)))))
 
 abbrev head_grown : List ℕ → Version × Counts × List ℕ → Version × Counts × List ℕ
@@ -127,7 +128,7 @@ header_grows bytes more =
     binds id_at _ _ _ _ _ (agrees_grows BadMagic BadMagic (nat_eq word.0 (from_be_bytes w32 magic))) (λ u.
     binds (grown more) _ _ _ _ _ (number_grows w16 word.1 more) (λ number.
     binds id_at _ _ _ _ _ (version_grows (version_numbered number.0)) (λ version.
-    binds (grown more) _ _ _ _ _ (counts_grow number.1 more) (λ counts. refl)))))
+    binds (grown more) _ _ _ _ _ (counts_grow version number.1 more) (λ counts. refl)))))
 
 -- ---- records
 

@@ -12,7 +12,9 @@ use Rattle.il_model.specs.declared.program.Instance.{Instance}
 use Rattle.il_model.specs.declared.program.Operand.{Operand}
 use Rattle.il_model.specs.declared.program.Argument.{Argument}
 use Rattle.il_model.specs.declared.program.Instr.{Instr}
-use Rattle.il_model.specs.Program.{Program, Declarations, is_too_large, program_of}
+use Rattle.il_model.specs.Program.{Program, Declarations, program_of}
+use Rattle.il_model.specs.Limits.{has_room}
+use Rattle.il_model.specs.declared.codes.Version.{Version}
 use Rattle.il_model.specs.Resolved.{kind_in}
 use Rattle.il_model.specs.Marks.{Mark, words_in, starts_from, AreRising, AreStarts}
 use Rattle.il_model.specs.Constants.{operands_of}
@@ -59,14 +61,14 @@ words_are xs (w ∷ ws) = words_by xs w.content ws (words_are xs ws)
 words_fit : (xs : List Instance) (ws : List Word) → words_in (lines_of xs ws) ≤ length ws
 words_fit xs ws = let is = words_are xs ws in omega (arith, is)
 
-code_by : (b : Bool) (P Q : Program) → cond b None (Some P) ≡ Some Q → Q.code ≡ P.code
-code_by true P Q e = absurd cc
-code_by false P Q e = let is : P ≡ Q = cc in ap (λ (R : Program). R.code) (sym is)
+code_by : (b : Bool) (P Q : Program) → cond b (Some P) None ≡ Some Q → Q.code ≡ P.code
+code_by false P Q e = absurd cc
+code_by true P Q e = let is : P ≡ Q = cc in ap (λ (R : Program). R.code) (sym is)
 
 -- a program of words has no more than those
-pub program_fits : (vs : List Variable) (xs : List Instance) (ws : List Word) (Q : Program) → program_of vs xs (lines_of xs ws) ≡ Some Q → words_in Q.code ≤ length ws
-program_fits vs xs ws Q e =
-    let is : Q.code ≡ lines_of xs ws = code_by (is_too_large vs xs (lines_of xs ws)) (record { variables = vs; instances = xs; code = lines_of xs ws }) Q e in
+pub program_fits : (version : Version) (vs : List Variable) (xs : List Instance) (ws : List Word) (Q : Program) → program_of version vs xs (lines_of xs ws) ≡ Some Q → words_in Q.code ≤ length ws
+program_fits version vs xs ws Q e =
+    let is : Q.code ≡ lines_of xs ws = code_by (has_room version vs xs (lines_of xs ws)) (record { variables = vs; instances = xs; code = lines_of xs ws }) Q e in
     omega (arith, words_fit xs ws, ap words_in is)
 
 -- ---- arguments that are behind a call

@@ -1,9 +1,9 @@
 -- The two laws: what is read is the spelling of a typed program, and that spelling is read.
 use Rattle.il_model.proofs.RowTypes.{and_yes}
-use Rattle.std.proofs.Common.{◌≡◌, ℕ, ◌+◌, ◌≤◌, Bool, true, false, cond, ltb, List, [], ◌∷◌, length, Option, Some, None, Result, Ok, Err, refl, sym, ap, subst, ◌∙◌, arith}
-use Rattle.std.specs.Prelude.{nat_eq, nat_le, ◌||◌, ◌&&◌, ◌++◌, IfOk}
+use Rattle.std.proofs.Common.{◌≡◌, ℕ, ◌+◌, ◌≤◌, Bool, true, false, cond, List, [], ◌∷◌, length, Option, Some, None, Result, Ok, Err, refl, sym, ap, subst, ◌∙◌, arith}
+use Rattle.std.specs.Prelude.{nat_eq, nat_le, ◌&&◌, ◌++◌, IfOk}
 use Rattle.std.specs.List.{flat_map, list_all, position, AllByRecursion}
-use Rattle.std.proofs.lemmas.Bool.{ltb-false, le-ltb, eqb-true, eq-eqb}
+use Rattle.std.proofs.lemmas.Bool.{le-leb, eqb-true, eq-eqb}
 use Rattle.std.proofs.lemmas.List.{take_all}
 use Rattle.il_values.specs.declared.value.Value.{Value}
 use Rattle.il_model.specs.declared.codes.Version.{Version}
@@ -12,6 +12,7 @@ use Rattle.il_model.specs.declared.program.Instr.{Instr}
 use Rattle.il_model.specs.declared.program.Operand.{Operand}
 use Rattle.il_model.specs.declared.typing.TypeFault.{TypeFault}
 use Rattle.il_model.specs.Program.{Program, program_of}
+use Rattle.il_model.specs.Limits.{most_variables, most_instances, most_instructions, most_constants, has_room}
 use Rattle.il_model.specs.Typing.{IsTyped}
 use Rattle.il_model.specs.Checking.{judgement_of}
 use Rattle.il_model.specs.Marks.{Mark, with_mark, marks_from, word_count, words_in, AreRising, AreStarts}
@@ -22,7 +23,9 @@ use Rattle.il_model.proofs.Marks.{table_again, table_rises, table_starts, table_
 use Rattle.il_model.proofs.ConstantLists.{are_apart}
 use Rattle.il_model.proofs.Calls.{typed_lines}
 use Rattle.il_model.proofs.Judged.{is_typed, faultless}
-use Rattle.il_model.proofs.Versions.{same_version, version_may}
+use Rattle.il_model.proofs.Versions.{same_version, version_may, version_within, version_constants}
+use Rattle.il_model.proofs.Sizes.{IsWithin, room_is_small, instructions_most, constants_most}
+use Rattle.il_model.proofs.Lawful.{marks_few}
 use Rattle.il_loader.specs.declared.word.Word.{Word}
 use Rattle.il_loader.specs.declared.word.Content.{Content}
 use Rattle.il_loader.specs.declared.word.Content.TheVariants as contents
@@ -48,11 +51,9 @@ small_ok : (o : Option Program) (Q : Program) → small o ≡ Ok Q → o ≡ Som
 small_ok None Q e = absurd cc
 small_ok (Some P) Q e = let is : P ≡ Q = cc in ap (λ (x : Program). Some x) is
 
-program_by : (a b c : Bool) (P Q : Program) → cond (a || (b || c)) None (Some P) ≡ Some Q → (c ≡ false) × (P ≡ Q)
-program_by false false false P Q e = (refl, cc)
-program_by true b c P Q e = absurd cc
-program_by false true c P Q e = absurd cc
-program_by false false true P Q e = absurd cc
+program_by : (room : Bool) (P Q : Program) → cond room (Some P) None ≡ Some Q → (room ≡ true) × (P ≡ Q)
+program_by true P Q e = (refl, cc)
+program_by false P Q e = absurd cc
 
 record IsFine (o : Option ℕ) (j : Result (Unit {0}) (TypeFault × ℕ)) : Type 0 where
   none : o ≡ None
@@ -101,7 +102,7 @@ abbrev version_in : Tables → Version
 version_in t = version_with t.variables t.instances t.constants (lines_of t.instances t.words)
 
 record IsJudged (t : Tables) : Type 0 where
-  short : length (lines_of t.instances t.words) ≤ 4096
+  room : has_room t.version t.variables t.instances (lines_of t.instances t.words) ≡ true
   rising : AreRising 0 (length t.words) t.labels
   starts : AreStarts 0 (lines_of t.instances t.words) t.labels
   used : used_from 0 0 t.words ≡ Ok (length t.constants)
@@ -113,18 +114,18 @@ record IsJudged (t : Tables) : Type 0 where
 abbrev is_own : Tables → Program → Bool
 is_own t Q = is_own_version t.version t.constants Q
 
-judged_join : (total : ℕ) (t : Tables) (Q : Program) (x y z u : Unit {0}) → program_of t.variables t.instances (lines_of t.instances t.words) ≡ Some Q → risen (constant_place t.version total (length t.words) (length t.constants) 0) 0 t.words t.labels ≡ Ok x
+judged_join : (total : ℕ) (t : Tables) (Q : Program) (x y z u : Unit {0}) → program_of t.version t.variables t.instances (lines_of t.instances t.words) ≡ Some Q → risen (constant_place t.version total (length t.words) (length t.constants) 0) 0 t.words t.labels ≡ Ok x
     → words_fine total (length t.words) (misspelled t.words (used_from 0 0 t.words)) (at_word Q (judgement_of Q)) ≡ Ok y → all_used t.version total (length t.words) (length t.constants) (used_from 0 0 t.words) ≡ Ok z → agrees BadVersion (is_own t Q) ≡ Ok u → IsJudged t × (program_in t ≡ Q)
 unfolding is_own_version
 judged_join total t Q x y z u small-is risen-is fine-is used-is version-is =
-    let p = program_by (ltb 512 (length t.variables)) (ltb 128 (length t.instances)) (ltb 4096 (length (lines_of t.instances t.words))) (program_in t) Q small-is in
+    let p = program_by (has_room t.version t.variables t.instances (lines_of t.instances t.words)) (program_in t) Q small-is in
     let fine = fine_takes total (length t.words) (misspelled t.words (used_from 0 0 t.words)) (at_word Q (judgement_of Q)) y fine-is in
     let used = earlier_none (sooner (position silent t.words) (stray_from false t.words)) (used_from 0 0 t.words) fine.none in
     let both = sooner_none (position silent t.words) (stray_from false t.words) used.none in
     let all = all_takes t.version total (length t.words) (length t.constants) (used_from 0 0 t.words) used.number z used.is used-is in
     let labels = risen_takes t.instances (constant_place t.version total (length t.words) (length t.constants) 0) 0 t.words t.labels x (none_front None t.words both.1).0 risen-is in (
       record {
-        short = ltb-false 4096 (length (lines_of t.instances t.words)) p.0;
+        room = p.0;
         rising = labels.0;
         starts = labels.1;
         used = used.is ∙ ap (λ (u : ℕ). let r : Result ℕ ℕ = Ok u in r) all;
@@ -142,13 +143,13 @@ judged_takes total t Q e =
     let end = constant_place t.version total (length t.words) (length t.constants) 0 in
     let used = used_from 0 0 t.words in
     let wrong = misspelled t.words used in
-    let a = bind_ok (small (program_of t.variables t.instances (lines_of t.instances t.words))) (λ Q. risen end 0 t.words t.labels >>= λ rising. words_fine total (length t.words) wrong (at_word Q (judgement_of Q)) >>= λ fine. all_used t.version total (length t.words) (length t.constants) used >>= λ used. agrees BadVersion (is_own t Q) >>= λ own. Ok Q) Q e in
+    let a = bind_ok (small (program_of t.version t.variables t.instances (lines_of t.instances t.words))) (λ Q. risen end 0 t.words t.labels >>= λ rising. words_fine total (length t.words) wrong (at_word Q (judgement_of Q)) >>= λ fine. all_used t.version total (length t.words) (length t.constants) used >>= λ used. agrees BadVersion (is_own t Q) >>= λ own. Ok Q) Q e in
     let P = a.0 in
     let b = bind_ok (risen end 0 t.words t.labels) (λ rising. words_fine total (length t.words) wrong (at_word P (judgement_of P)) >>= λ fine. all_used t.version total (length t.words) (length t.constants) used >>= λ used. agrees BadVersion (is_own t P) >>= λ own. Ok P) Q a.2 in
     let c = bind_ok (words_fine total (length t.words) wrong (at_word P (judgement_of P))) (λ fine. all_used t.version total (length t.words) (length t.constants) used >>= λ used. agrees BadVersion (is_own t P) >>= λ own. Ok P) Q b.2 in
     let d = bind_ok (all_used t.version total (length t.words) (length t.constants) used) (λ used. agrees BadVersion (is_own t P) >>= λ own. Ok P) Q c.2 in
     let v = bind_ok (agrees BadVersion (is_own t P)) (λ own. Ok P) Q d.2 in
-    let j = judged_join total t P b.0 c.0 d.0 v.0 (small_ok (program_of t.variables t.instances (lines_of t.instances t.words)) P a.1) b.1 c.1 d.1 v.1 in
+    let j = judged_join total t P b.0 c.0 d.0 v.0 (small_ok (program_of t.version t.variables t.instances (lines_of t.instances t.words)) P a.1) b.1 c.1 d.1 v.1 in
     (j.0, j.1 ∙ ok_is P Q v.2)
 
 -- ---- what is read is spelled so
@@ -172,24 +173,25 @@ tables_spelled t are judgement_of =
     let none : front t.words ≡ 0 = (none_front None t.words judgement_of.stray).0 in
     let long : length t.words ≡ words_in Q.code = omega (arith, words_are t.instances t.words, none) in
     let few = are.few in
-    let few-vs : length t.variables ≤ 512 = few.variables in
-    let few-xs : length t.instances ≤ 128 = few.instances in
-    let few-ms : length t.labels ≤ 4096 = few.labels in
-    let few-cs : length t.constants ≤ 20480 = few.constants in
+    let room = room_is_small t.version t.variables t.instances Q.code judgement_of.room in
+    let few-ms : length t.labels ≤ most_instructions t.version = few.labels in
+    let few-cs : length t.constants ≤ most_constants t.version = few.constants in
     let few-ws : length t.words ≤ 36864 = few.words in
+    let most-ms : length t.labels ≤ 16384 = omega (arith, few-ms, instructions_most t.version) in
+    let most-cs : length t.constants ≤ 32767 = omega (arith, few-cs, constants_most t.version) in
     let text : IsProgram Q = record {
       variables = are.variables;
-      variables_few = few-vs;
+      variables_few = room.0;
       instances = are.instances;
-      instances_few = few-xs;
+      instances_few = room.1;
       labels = marks;
-      labels_few = subst (λ (ms : List Mark). length ms ≤ 4096) (sym ms-is) few-ms;
+      labels_few = subst (λ (ms : List Mark). length ms ≤ 16384) (sym ms-is) most-ms;
       constants = constants;
-      constants_few = subst (λ (cs : List Value). length cs ≤ 20480) (sym cs-is) few-cs;
+      constants_few = subst (λ (cs : List Value). length cs ≤ 32767) (sym cs-is) most-cs;
       words = w.words;
       words_few = subst (λ (k : ℕ). k ≤ 36864) long few-ws;
     } in
-    (record { text = text; short = judgement_of.short; typed = judgement_of.typed }, spelled_join t Q (judgement_of.version ∙ ap (λ (cs : List Value). version_with t.variables t.instances cs Q.code) (sym cs-is)) refl refl (sym ms-is) (sym cs-is) long w.same)
+    (record { text = text; short = room.2; uncrowded = room.3; typed = judgement_of.typed }, spelled_join t Q (judgement_of.version ∙ ap (λ (cs : List Value). version_with t.variables t.instances cs Q.code) (sym cs-is)) refl refl (sym ms-is) (sym cs-is) long w.same)
 
 pub image_takes : (bytes : List ℕ) (Q : Program) → IsBytes bytes → image_of bytes ≡ Ok Q → IsImage Q × (bytes ≡ spelling Q)
 unfolding image_of
@@ -211,13 +213,16 @@ tables_of Q = record { version = version_of Q; variables = Q.variables; instance
 tables_fit : (Q : Program) → IsImage Q → AreTables (tables_of Q)
 tables_fit Q is =
     let text = is.text in
+    let within = version_within Q is in
+    let labels : length (marks_from 0 Q.code) ≤ length Q.code = marks_few Q.code 0 in
+    let code : length Q.code ≤ most_instructions (version_of Q) = within.code in
     record {
       variables = text.variables;
       instances = text.instances;
       labels = text.labels;
       constants = text.constants;
       words = words_again Q [] [] Q.code text.words (table_labels Q.code);
-      few = record { variables = text.variables_few; instances = text.instances_few; labels = text.labels_few; constants = text.constants_few; words = subst (λ (k : ℕ). k ≤ 36864) (sym (words_long Q (constants_of Q) Q.code)) text.words_few };
+      few = record { variables = within.variables; instances = within.instances; labels = omega (arith, labels, code); constants = version_constants Q is; words = subst (λ (k : ℕ). k ≤ 36864) (sym (words_long Q (constants_of Q) Q.code)) text.words_few };
     }
 
 -- a version may have the operator
@@ -313,12 +318,17 @@ tables_short Q is =
     let same : list_all (may_read version) (all_words Q) ≡ list_all (may_follow version) Q.code = may_words version Q.instances (all_words Q) (none_stray Q cs [] Q.code false is.text.words) ∙ ap (list_all (may_follow version)) (lines_again Q cs [] Q.code is.text.words) in
     record { variables = may.0; instances = may.1; labels = labels_may version 0 Q.code may.3; constants = may.2; words = same ∙ follows version Q.code may.3 }
 
-tables_judged : (total : ℕ) (Q : Program) → IsImage Q → judged_tables total (tables_of Q) ≡ Ok Q
-unfolding judged_tables is_own_version
-tables_judged total Q is =
-    let vs-le : length Q.variables ≤ 512 = is.text.variables_few in
-    let xs-le : length Q.instances ≤ 128 = is.text.instances_few in
-    let code-le : length Q.code ≤ 4096 = is.short in
+own_version : (Q : Program) → is_own_version (version_of Q) (constants_of Q) Q ≡ true
+unfolding is_own_version
+own_version Q = eq-eqb (version_number (version_of Q)) (version_number (version_of Q)) refl
+
+-- the tables of a program, with a version in front
+abbrev tables_as : Version → Program → Tables
+tables_as version Q = record { version = version; variables = Q.variables; instances = Q.instances; labels = marks_from 0 Q.code; constants = constants_of Q; words = all_words Q }
+
+judged_as : (version : Version) (total : ℕ) (Q : Program) → IsImage Q → IsWithin version Q.variables Q.instances Q.code → is_own_version version (constants_of Q) Q ≡ true → judged_tables total (tables_as version Q) ≡ Ok Q
+unfolding judged_tables
+judged_as version total Q is within own =
     let cs = constants_of Q in
     let ms = marks_from 0 Q.code in
     let ws = all_words Q in
@@ -328,20 +338,24 @@ tables_judged total Q is =
     let all : cs ≡ constants_from same_value [] (word_operands ws) = ap (λ (code : List Instr). constants_from same_value [] (operands_of code)) (sym lines) ∙ ap (constants_from same_value []) (operands_are Q.instances ws stray) in
     let used : used_from 0 0 ws ≡ Ok (length cs) = used_again_all Q cs [] ws 0 is.text.constants_few (words_coded Q cs Q.code) all in
     let starts : AreStarts 0 (lines_of Q.instances ws) ms = subst (λ (code : List Instr). AreStarts 0 code ms) (sym lines) (table_starts Q.code 0) in
-    let rising : risen (constant_place (version_of Q) total (length ws) (length cs) 0) 0 ws ms ≡ Ok tt = risen_again Q.instances (constant_place (version_of Q) total (length ws) (length cs) 0) 0 (0 + words_in Q.code) ws ms (none_front None ws stray).0 (table_rises Q.code 0) starts in
+    let rising : risen (constant_place version total (length ws) (length cs) 0) 0 ws ms ≡ Ok tt = risen_again Q.instances (constant_place version total (length ws) (length cs) 0) 0 (0 + words_in Q.code) ws ms (none_front None ws stray).0 (table_rises Q.code 0) starts in
     rw (
       lines,
-      le-ltb 512 (length Q.variables) vs-le,
-      le-ltb 128 (length Q.instances) xs-le,
-      le-ltb 4096 (length Q.code) code-le,
+      le-leb (length Q.variables) (most_variables version) within.variables,
+      le-leb (length Q.instances) (most_instances version) within.instances,
+      le-leb (length Q.code) (most_instructions version) within.code,
+      within.words,
       rising,
       used,
       stray,
       loud,
       faultless Q is.typed,
       eq-eqb (length cs) (length cs) refl,
-      eq-eqb (version_number (version_of Q)) (version_number (version_of Q)) refl,
+      own,
     ) refl
+
+tables_judged : (total : ℕ) (Q : Program) → IsImage Q → judged_tables total (tables_of Q) ≡ Ok Q
+tables_judged total Q is = judged_as (version_of Q) total Q is (version_within Q is) (own_version Q)
 
 pub image_again : (Q : Program) → IsImage Q → image_of (spelling Q) ≡ Ok Q
 unfolding image_of

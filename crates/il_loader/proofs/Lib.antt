@@ -19,3 +19,4 @@ pub mod Link
 pub mod Straight
 pub mod LabelTables
 pub mod VariableTables
+pub mod NameNumbers

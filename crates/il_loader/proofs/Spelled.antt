@@ -8,11 +8,13 @@ use Rattle.std.proofs.lemmas.List.{append-nil, nil_from_length}
 use Rattle.il_model.specs.declared.codes.Version.{Version}
 use Rattle.il_model.specs.declared.codes.Version.TheVariants as versions
 use Rattle.il_model.specs.Program.{Declarations}
+use Rattle.il_model.specs.Limits.{most_variables, most_instances, most_instructions, most_constants}
 use Rattle.il_model.specs.Image.{magic, version_number, may_call, may_declare, may_instantiate, may_keep, variable_bytes, instance_bytes, mark_bytes, constant_bytes, counts_bytes, header_bytes}
 use Rattle.il_model.specs.Marks.{Mark}
 use Rattle.il_model.specs.Codes.{version_numbered}
 use Rattle.il_model.specs.Fits.{IsVariable, IsInstance, IsMark, IsConstant, AreItems}
 use Rattle.il_model.proofs.Versions.{items_may, version_again, version_is}
+use Rattle.il_model.proofs.Sizes.{variables_most, instances_most, instructions_most, constants_most}
 use Rattle.il_records.specs.declared.counts.Counts.{Counts}
 use Rattle.il_loader.specs.declared.word.Word.{Word}
 use Rattle.il_records.specs.declared.fault.LoadFault.TheVariants.{BadMagic, BadCount, Trailing}
@@ -46,47 +48,47 @@ counts_join bytes r0 r1 r2 r3 rest v i l c w t0 t1 t2 t3 t4 =
     let e14 = Takes-then r0 (to_be_bytes w16 i) r1 (to_be_bytes w16 l ++ (to_be_bytes w16 c ++ to_be_bytes w16 w)) rest t1 e24 in
     Takes-then bytes (to_be_bytes w16 v) r0 (to_be_bytes w16 i ++ (to_be_bytes w16 l ++ (to_be_bytes w16 c ++ to_be_bytes w16 w))) rest t0 e14
 
-pub record AreFew (c : Counts) : Type 0 where
-  pub variables : c.variables ≤ 512
-  pub instances : c.instances ≤ 128
-  pub labels : c.labels ≤ 4096
-  pub constants : c.constants ≤ 20480
+pub record AreFew (version : Version) (c : Counts) : Type 0 where
+  pub variables : c.variables ≤ most_variables version
+  pub instances : c.instances ≤ most_instances version
+  pub labels : c.labels ≤ most_instructions version
+  pub constants : c.constants ≤ most_constants version
   pub words : c.words ≤ 36864
 
 abbrev pub counts_of_header : Counts → List ℕ
 counts_of_header c = counts_bytes c.variables c.instances c.labels c.constants c.words
 
-counts_take : (bytes : List ℕ) (x : Counts × List ℕ) → IsBytes bytes → counts_at bytes ≡ Ok x → Takes bytes (counts_of_header x.0) x.1 × AreFew x.0
+counts_take : (version : Version) (bytes : List ℕ) (x : Counts × List ℕ) → IsBytes bytes → counts_at version bytes ≡ Ok x → Takes bytes (counts_of_header x.0) x.1 × AreFew version x.0
 unfolding counts_at
-counts_take bytes x fits e =
-    let b_variables = bind_ok (count_at 512 bytes) (λ variables. count_at 128 variables.1 >>= λ instances. count_at 4096 instances.1 >>= λ labels. count_at 20480 labels.1 >>= λ constants. count_at 36864 constants.1 >>= λ words. Ok (record { variables = variables.0; instances = instances.0; labels = labels.0; constants = constants.0; words = words.0 }, words.1)) x e in
-    let b_instances = bind_ok (count_at 128 b_variables.0.1) (λ instances. count_at 4096 instances.1 >>= λ labels. count_at 20480 labels.1 >>= λ constants. count_at 36864 constants.1 >>= λ words. Ok (record { variables = b_variables.0.0; instances = instances.0; labels = labels.0; constants = constants.0; words = words.0 }, words.1)) x b_variables.2 in
-    let b_labels = bind_ok (count_at 4096 b_instances.0.1) (λ labels. count_at 20480 labels.1 >>= λ constants. count_at 36864 constants.1 >>= λ words. Ok (record { variables = b_variables.0.0; instances = b_instances.0.0; labels = labels.0; constants = constants.0; words = words.0 }, words.1)) x b_instances.2 in
-    let b_constants = bind_ok (count_at 20480 b_labels.0.1) (λ constants. count_at 36864 constants.1 >>= λ words. Ok (record { variables = b_variables.0.0; instances = b_instances.0.0; labels = b_labels.0.0; constants = constants.0; words = words.0 }, words.1)) x b_labels.2 in
+counts_take version bytes x fits e =
+    let b_variables = bind_ok (count_at (most_variables version) bytes) (λ variables. count_at (most_instances version) variables.1 >>= λ instances. count_at (most_instructions version) instances.1 >>= λ labels. count_at (most_constants version) labels.1 >>= λ constants. count_at 36864 constants.1 >>= λ words. Ok (record { variables = variables.0; instances = instances.0; labels = labels.0; constants = constants.0; words = words.0 }, words.1)) x e in
+    let b_instances = bind_ok (count_at (most_instances version) b_variables.0.1) (λ instances. count_at (most_instructions version) instances.1 >>= λ labels. count_at (most_constants version) labels.1 >>= λ constants. count_at 36864 constants.1 >>= λ words. Ok (record { variables = b_variables.0.0; instances = instances.0; labels = labels.0; constants = constants.0; words = words.0 }, words.1)) x b_variables.2 in
+    let b_labels = bind_ok (count_at (most_instructions version) b_instances.0.1) (λ labels. count_at (most_constants version) labels.1 >>= λ constants. count_at 36864 constants.1 >>= λ words. Ok (record { variables = b_variables.0.0; instances = b_instances.0.0; labels = labels.0; constants = constants.0; words = words.0 }, words.1)) x b_instances.2 in
+    let b_constants = bind_ok (count_at (most_constants version) b_labels.0.1) (λ constants. count_at 36864 constants.1 >>= λ words. Ok (record { variables = b_variables.0.0; instances = b_instances.0.0; labels = b_labels.0.0; constants = constants.0; words = words.0 }, words.1)) x b_labels.2 in
     let b_words = bind_ok (count_at 36864 b_constants.0.1) (λ words. Ok (record { variables = b_variables.0.0; instances = b_instances.0.0; labels = b_labels.0.0; constants = b_constants.0.0; words = words.0 }, words.1)) x b_constants.2 in
-    let t0 = count_takes 512 bytes b_variables.0.0 b_variables.0.1 fits b_variables.1 in
-    let t1 = count_takes 128 b_variables.0.1 b_instances.0.0 b_instances.0.1 t0.0.rest_fits b_instances.1 in
-    let t2 = count_takes 4096 b_instances.0.1 b_labels.0.0 b_labels.0.1 t1.0.rest_fits b_labels.1 in
-    let t3 = count_takes 20480 b_labels.0.1 b_constants.0.0 b_constants.0.1 t2.0.rest_fits b_constants.1 in
+    let t0 = count_takes (most_variables version) bytes b_variables.0.0 b_variables.0.1 fits b_variables.1 in
+    let t1 = count_takes (most_instances version) b_variables.0.1 b_instances.0.0 b_instances.0.1 t0.0.rest_fits b_instances.1 in
+    let t2 = count_takes (most_instructions version) b_instances.0.1 b_labels.0.0 b_labels.0.1 t1.0.rest_fits b_labels.1 in
+    let t3 = count_takes (most_constants version) b_labels.0.1 b_constants.0.0 b_constants.0.1 t2.0.rest_fits b_constants.1 in
     let t4 = count_takes 36864 b_constants.0.1 b_words.0.0 b_words.0.1 t3.0.rest_fits b_words.1 in
     let whole = counts_join bytes b_variables.0.1 b_instances.0.1 b_labels.0.1 b_constants.0.1 b_words.0.1 b_variables.0.0 b_instances.0.0 b_labels.0.0 b_constants.0.0 b_words.0.0 t0.0 t1.0 t2.0 t3.0 t4.0 in
     let counts : Counts = record { variables = b_variables.0.0; instances = b_instances.0.0; labels = b_labels.0.0; constants = b_constants.0.0; words = b_words.0.0 } in
-    let few : AreFew counts = record { variables = t0.1; instances = t1.1; labels = t2.1; constants = t3.1; words = t4.1 } in
-    subst (λ (y : Counts × List ℕ). Takes bytes (counts_of_header y.0) y.1 × AreFew y.0) (ok_is (counts, b_words.0.1) x b_words.2) (whole, few)
+    let few : AreFew version counts = record { variables = t0.1; instances = t1.1; labels = t2.1; constants = t3.1; words = t4.1 } in
+    subst (λ (y : Counts × List ℕ). Takes bytes (counts_of_header y.0) y.1 × AreFew version y.0) (ok_is (counts, b_words.0.1) x b_words.2) (whole, few)
 
-counts_again : (c : Counts) (rest : List ℕ) → AreFew c → counts_at (counts_of_header c ++ rest) ≡ Ok (c, rest)
+counts_again : (version : Version) (c : Counts) (rest : List ℕ) → AreFew version c → counts_at version (counts_of_header c ++ rest) ≡ Ok (c, rest)
 unfolding counts_at
-counts_again c rest few =
-    let v-le = few.variables in
-    let i-le = few.instances in
-    let l-le = few.labels in
-    let c-le = few.constants in
+counts_again version c rest few =
+    let v-le : c.variables ≤ most_variables version = few.variables in
+    let i-le : c.instances ≤ most_instances version = few.instances in
+    let l-le : c.labels ≤ most_instructions version = few.labels in
+    let c-le : c.constants ≤ most_constants version = few.constants in
     let w-le = few.words in
     let b1 = to_be_bytes w16 c.instances in
     let b2 = to_be_bytes w16 c.labels in
     let b3 = to_be_bytes w16 c.constants in
     let last = to_be_bytes w16 c.words ++ rest in
-    ap counts_at (regrouped_5 (to_be_bytes w16 c.variables) b1 b2 b3 (to_be_bytes w16 c.words) rest) ∙ rw (count_again 512 c.variables (b1 ++ (b2 ++ (b3 ++ last))) v-le (omega arith), count_again 128 c.instances (b2 ++ (b3 ++ last)) i-le (omega arith), count_again 4096 c.labels (b3 ++ last) l-le (omega arith), count_again 20480 c.constants last c-le (omega arith), count_again 36864 c.words rest w-le (omega arith)) refl
+    ap (counts_at version) (regrouped_5 (to_be_bytes w16 c.variables) b1 b2 b3 (to_be_bytes w16 c.words) rest) ∙ rw (count_again (most_variables version) c.variables (b1 ++ (b2 ++ (b3 ++ last))) v-le (omega (arith, v-le, variables_most version)), count_again (most_instances version) c.instances (b2 ++ (b3 ++ last)) i-le (omega (arith, i-le, instances_most version)), count_again (most_instructions version) c.labels (b3 ++ last) l-le (omega (arith, l-le, instructions_most version)), count_again (most_constants version) c.constants last c-le (omega (arith, c-le, constants_most version)), count_again 36864 c.words rest w-le (omega arith)) refl
 
 abbrev pub header_of : Version → Counts → List ℕ
 header_of version c = header_bytes version c.variables c.instances c.labels c.constants c.words
@@ -107,17 +109,17 @@ version_small versions.Three = omega arith
 abbrev Head : Type 0
 Head = Version × Counts × List ℕ
 
-header_takes : (bytes : List ℕ) (x : Head) → IsBytes bytes → header_at bytes ≡ Ok x → Takes bytes (header_of x.0 x.1) x.2 × AreFew x.1
+header_takes : (bytes : List ℕ) (x : Head) → IsBytes bytes → header_at bytes ≡ Ok x → Takes bytes (header_of x.0 x.1) x.2 × AreFew x.0 x.1
 unfolding header_at
 header_takes bytes x fits e =
-    let b_magic = bind_ok (number_at w32 bytes) (λ word. agrees BadMagic (nat_eq word.0 magic_number) >>= λ is. number_at w16 word.1 >>= λ number. lawful_version (version_numbered number.0) >>= λ version. counts_at number.1 >>= λ counts. Ok (version, counts.0, counts.1)) x e in
-    let b_is = bind_ok (agrees BadMagic (nat_eq b_magic.0.0 magic_number)) (λ is. number_at w16 b_magic.0.1 >>= λ number. lawful_version (version_numbered number.0) >>= λ version. counts_at number.1 >>= λ counts. Ok (version, counts.0, counts.1)) x b_magic.2 in
-    let b_number = bind_ok (number_at w16 b_magic.0.1) (λ number. lawful_version (version_numbered number.0) >>= λ version. counts_at number.1 >>= λ counts. Ok (version, counts.0, counts.1)) x b_is.2 in
-    let b_version = bind_ok (lawful_version (version_numbered b_number.0.0)) (λ version. counts_at b_number.0.1 >>= λ counts. Ok (version, counts.0, counts.1)) x b_number.2 in
-    let b_counts = bind_ok (counts_at b_number.0.1) (λ counts. Ok (b_version.0, counts.0, counts.1)) x b_version.2 in
+    let b_magic = bind_ok (number_at w32 bytes) (λ word. agrees BadMagic (nat_eq word.0 magic_number) >>= λ is. number_at w16 word.1 >>= λ number. lawful_version (version_numbered number.0) >>= λ version. counts_at version number.1 >>= λ counts. Ok (version, counts.0, counts.1)) x e in
+    let b_is = bind_ok (agrees BadMagic (nat_eq b_magic.0.0 magic_number)) (λ is. number_at w16 b_magic.0.1 >>= λ number. lawful_version (version_numbered number.0) >>= λ version. counts_at version number.1 >>= λ counts. Ok (version, counts.0, counts.1)) x b_magic.2 in
+    let b_number = bind_ok (number_at w16 b_magic.0.1) (λ number. lawful_version (version_numbered number.0) >>= λ version. counts_at version number.1 >>= λ counts. Ok (version, counts.0, counts.1)) x b_is.2 in
+    let b_version = bind_ok (lawful_version (version_numbered b_number.0.0)) (λ version. counts_at version b_number.0.1 >>= λ counts. Ok (version, counts.0, counts.1)) x b_number.2 in
+    let b_counts = bind_ok (counts_at b_version.0 b_number.0.1) (λ counts. Ok (b_version.0, counts.0, counts.1)) x b_version.2 in
     let t0 = number_takes w32 (2 ^ 32) wide32 bytes b_magic.0.0 b_magic.0.1 fits b_magic.1 in
     let t1 = number_takes w16 (2 ^ 16) wide16 b_magic.0.1 b_number.0.0 b_number.0.1 t0.0.rest_fits b_number.1 in
-    let t2 = counts_take b_number.0.1 b_counts.0 t1.0.rest_fits b_counts.1 in
+    let t2 = counts_take b_version.0 b_number.0.1 b_counts.0 t1.0.rest_fits b_counts.1 in
     let magic-is = eqb-true b_magic.0.0 magic_number (agrees_ok BadMagic (nat_eq b_magic.0.0 magic_number) b_is.0 b_is.1) in
     let version-is = version_is b_number.0.0 b_version.0 (lawful_version_ok (version_numbered b_number.0.0) b_version.0 b_version.1) in
     let s0 = subst (λ (k : ℕ). Takes bytes (to_be_bytes w32 k) b_magic.0.1) magic-is t0.0 in
@@ -126,17 +128,17 @@ header_takes bytes x fits e =
     let number = to_be_bytes w16 (version_number b_version.0) in
     let e12 = Takes-then b_magic.0.1 number b_number.0.1 counts b_counts.0.1 s1 t2.0 in
     let whole = Takes-then bytes (to_be_bytes w32 magic_number) b_magic.0.1 (number ++ counts) b_counts.0.1 s0 e12 in
-    subst (λ (y : Head). Takes bytes (header_of y.0 y.1) y.2 × AreFew y.1) (ok_is (b_version.0, b_counts.0.0, b_counts.0.1) x b_counts.2) (whole, t2.1)
+    subst (λ (y : Head). Takes bytes (header_of y.0 y.1) y.2 × AreFew y.0 y.1) (ok_is (b_version.0, b_counts.0.0, b_counts.0.1) x b_counts.2) (whole, t2.1)
 
 regrouped_3 : (a b c rest : List ℕ) → (a ++ (b ++ c)) ++ rest ≡ a ++ (b ++ (c ++ rest))
 regrouped_3 a b c rest = append_assoc a (b ++ c) rest ∙ ap (λ (x : List ℕ). a ++ x) (append_assoc b c rest)
 
-header_again : (version : Version) (c : Counts) (rest : List ℕ) → AreFew c → header_at (header_of version c ++ rest) ≡ Ok (version, c, rest)
+header_again : (version : Version) (c : Counts) (rest : List ℕ) → AreFew version c → header_at (header_of version c ++ rest) ≡ Ok (version, c, rest)
 unfolding header_at
 header_again version c rest few =
     let counts = counts_of_header c in
     let number = to_be_bytes w16 (version_number version) in
-    ap header_at (regrouped_3 (to_be_bytes w32 magic_number) number counts rest) ∙ rw (number_again w32 (2 ^ 32) wide32 magic_number (number ++ (counts ++ rest)) (omega arith), number_again w16 (2 ^ 16) wide16 (version_number version) (counts ++ rest) (version_small version), version_again version, counts_again c rest few) refl
+    ap header_at (regrouped_3 (to_be_bytes w32 magic_number) number counts rest) ∙ rw (number_again w32 (2 ^ 32) wide32 magic_number (number ++ (counts ++ rest)) (omega arith), number_again w16 (2 ^ 16) wide16 (version_number version) (counts ++ rest) (version_small version), version_again version, counts_again version c rest few) refl
 
 -- ---- the tables
 
@@ -164,7 +166,7 @@ pub record AreTables (t : Tables) : Type 0 where
   pub labels : AreItems IsMark [] t.labels
   pub constants : AreItems IsConstant [] t.constants
   pub words : AreNext t t.words
-  pub few : AreFew (counts_of t)
+  pub few : AreFew t.version (counts_of t)
 
 -- what is long in them is of their version
 pub record AreShort (t : Tables) : Type 0 where
@@ -238,9 +240,9 @@ bodies_take version total c bytes t fits e =
     let end = ended_ok made t b_words.0.1 b_words.2 in
     subst (AreBodies version c bytes) end.1 (bodies_join c bytes b_variables.0.1 b_instances.0.1 b_labels.0.1 b_constants.0.1 b_words.0.1 made t0 t1 t2 t3 t4 end.0)
 
-tables_join : (bytes rest : List ℕ) (version : Version) (c : Counts) (t : Tables) → Takes bytes (header_of version c) rest → AreFew c → AreBodies version c rest t → AreTables t × (bytes ≡ tables_bytes t)
+tables_join : (bytes rest : List ℕ) (version : Version) (c : Counts) (t : Tables) → Takes bytes (header_of version c) rest → AreFew version c → AreBodies version c rest t → AreTables t × (bytes ≡ tables_bytes t)
 tables_join bytes rest version c t takes few are = (
-  record { variables = are.variables; instances = are.instances; labels = are.labels; constants = are.constants; words = are.words; few = subst AreFew (sym are.counts) few },
+  record { variables = are.variables; instances = are.instances; labels = are.labels; constants = are.constants; words = are.words; few = subst (AreFew t.version) (sym are.counts) (subst (λ (v : Version). AreFew v c) (sym are.own) few) },
   takes.parts ∙ ap (λ (r : List ℕ). header_of version c ++ r) are.spelled ∙ ap (λ (k : Counts). header_of version k ++ bodies_bytes t) (sym are.counts) ∙ ap (λ (v : Version). header_of v (counts_of t) ++ bodies_bytes t) (sym are.own),
 )
 

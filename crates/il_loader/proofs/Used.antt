@@ -72,20 +72,20 @@ used_take ds ms cs (w ∷ ws) n u v apart are e =
 -- ---- the other way
 
 -- a literal of a table with room for its constants is the constant of its number
-constant_under : (cs : List Value) (v : Value) (k : ℕ) → length cs ≤ 20480 → position (same_value v) cs ≡ Some k → k < length cs → constant_number (with_code (code_of (coded_literal cs v))) ≡ Some k
+constant_under : (cs : List Value) (v : Value) (k : ℕ) → length cs ≤ 32767 → position (same_value v) cs ≡ Some k → k < length cs → constant_number (with_code (code_of (coded_literal cs v))) ≡ Some k
 constant_under cs v k few e lt =
     let own : HasOwnCode (coded.Constant k) = omega arith in
     ap (λ (p : Option ℕ). constant_number (with_code (code_of (numbered coded.Constant p)))) e ∙ ap constant_number (coded_again (coded.Constant k) own)
 
 -- the constants with one that was there, or with a new one
-known_step : (seen more : List Value) (v : Value) (k : ℕ) → length (seen ++ more) ≤ 20480 → position (same_value v) seen ≡ Some k → step_used (constant_number (with_code (code_of (coded_literal (seen ++ more) v)))) (length seen) ≡ Some (length seen)
+known_step : (seen more : List Value) (v : Value) (k : ℕ) → length (seen ++ more) ≤ 32767 → position (same_value v) seen ≡ Some k → step_used (constant_number (with_code (code_of (coded_literal (seen ++ more) v)))) (length seen) ≡ Some (length seen)
 known_step seen more v k few e =
     let f = position_front (same_value v) seen more k e in
     let lt : k < length seen = f.before in
     let under = constant_under (seen ++ more) v k few f.there (omega (arith, length-append seen more)) in
     ap (λ (o : Option ℕ). step_used o (length seen)) under ∙ rw (lt-ltb k (length seen) lt) refl
 
-new_step : (seen more : List Value) (v : Value) → length ((seen ++ v ∷ []) ++ more) ≤ 20480 → position (same_value v) seen ≡ None
+new_step : (seen more : List Value) (v : Value) → length ((seen ++ v ∷ []) ++ more) ≤ 32767 → position (same_value v) seen ≡ None
     → step_used (constant_number (with_code (code_of (coded_literal ((seen ++ v ∷ []) ++ more) v)))) (length seen) ≡ Some (length (seen ++ v ∷ []))
 new_step seen more v few e =
     let found : position (same_value v) ((seen ++ v ∷ []) ++ more) ≡ Some (length seen) = ap (position (same_value v)) (append_assoc seen (v ∷ []) more) ∙ position_behind (same_value v) seen v more e (same_self v) in
@@ -93,18 +93,18 @@ new_step seen more v few e =
     let under = constant_under ((seen ++ v ∷ []) ++ more) v (length seen) few found (omega (arith, long, length-append (seen ++ v ∷ []) more)) in
     ap (λ (o : Option ℕ). step_used o (length seen)) under ∙ rw (le-ltb (length seen) (length seen) (omega arith), eq-eqb (length seen) (length seen) refl) (ap (λ (n : ℕ). Some n) long)
 
-literal_step : (o : Option ℕ) (cs seen : List Value) (v : Value) (os : List Operand) → length cs ≤ 20480 → position (same_value v) seen ≡ o → cs ≡ constants_from same_value (cond (is_some o) seen (seen ++ v ∷ [])) os
+literal_step : (o : Option ℕ) (cs seen : List Value) (v : Value) (os : List Operand) → length cs ≤ 32767 → position (same_value v) seen ≡ o → cs ≡ constants_from same_value (cond (is_some o) seen (seen ++ v ∷ [])) os
     → step_used (constant_number (with_code (code_of (coded_literal cs v)))) (length seen) ≡ Some (length (cond (is_some o) seen (seen ++ v ∷ [])))
 literal_step None cs seen v os few e is =
     let m = constants_grow os (seen ++ v ∷ []) in
     let all : cs ≡ (seen ++ v ∷ []) ++ m.more = is ∙ m.is in
-    ap (λ (all : List Value). step_used (constant_number (with_code (code_of (coded_literal all v)))) (length seen)) all ∙ new_step seen m.more v (subst (λ (xs : List Value). length xs ≤ 20480) all few) e
+    ap (λ (all : List Value). step_used (constant_number (with_code (code_of (coded_literal all v)))) (length seen)) all ∙ new_step seen m.more v (subst (λ (xs : List Value). length xs ≤ 32767) all few) e
 literal_step (Some k) cs seen v os few e is =
     let m = constants_grow os seen in
     let all : cs ≡ seen ++ m.more = is ∙ m.is in
-    ap (λ (all : List Value). step_used (constant_number (with_code (code_of (coded_literal all v)))) (length seen)) all ∙ known_step seen m.more v k (subst (λ (xs : List Value). length xs ≤ 20480) all few) e
+    ap (λ (all : List Value). step_used (constant_number (with_code (code_of (coded_literal all v)))) (length seen)) all ∙ known_step seen m.more v k (subst (λ (xs : List Value). length xs ≤ 32767) all few) e
 
-step_again : (Q : Program) (cs seen : List Value) (o : Operand) (os : List Operand) → length cs ≤ 20480 → cs ≡ constants_from same_value (joined_constants same_value seen (operand_literal o)) os → step_used (constant_in o (operand_code Q cs o)) (length seen) ≡ Some (length (joined_constants same_value seen (operand_literal o)))
+step_again : (Q : Program) (cs seen : List Value) (o : Operand) (os : List Operand) → length cs ≤ 32767 → cs ≡ constants_from same_value (joined_constants same_value seen (operand_literal o)) os → step_used (constant_in o (operand_code Q cs o)) (length seen) ≡ Some (length (joined_constants same_value seen (operand_literal o)))
 step_again Q cs seen operands.Absent os few is = refl
 step_again Q cs seen (operands.Literal v) os few is = literal_step (position (same_value v) seen) cs seen v os few refl is
 step_again Q cs seen (operands.Bare z) os few is = refl
@@ -119,7 +119,7 @@ abbrev pub IsCoded : Program → List Value → Word → Type 0
 IsCoded Q cs w = w.code ≡ operand_code Q cs (operand_in w.content)
 
 -- the words of a program use its constants in order
-pub used_again_all : (Q : Program) (cs seen : List Value) (ws : List Word) (n : ℕ) → length cs ≤ 20480 → AllByRecursion (IsCoded Q cs) ws → cs ≡ constants_from same_value seen (word_operands ws) → used_from n (length seen) ws ≡ Ok (length cs)
+pub used_again_all : (Q : Program) (cs seen : List Value) (ws : List Word) (n : ℕ) → length cs ≤ 32767 → AllByRecursion (IsCoded Q cs) ws → cs ≡ constants_from same_value seen (word_operands ws) → used_from n (length seen) ws ≡ Ok (length cs)
 used_again_all Q cs seen [] n few fits is = ap (λ (k : ℕ). let r : Result ℕ ℕ = Ok k in r) (ap length (sym is))
 used_again_all Q cs seen (w ∷ ws) n few fits is =
     let o = operand_in w.content in

@@ -807,7 +807,7 @@ has_image Q is =
     let variables = are_items fitting.IsVariable IsVariable IsFreeVariable AreOther variable_new variable_next [] Q.variables is.variables (none_free Q.variables) (variables_apart Q.variables parts.first is.locations) in
     let own = own_names Q.variables Q.instances is.instances parts.across is.apart in
     let instances = are_items (fitting.IsInstance Q.variables) (IsOwnName Q.variables) IsFreeInstance AreOtherInstances (instance_new Q.variables) (instance_next Q.variables) [] Q.instances own (no_instances Q.instances) (instances_apart Q.instances parts.second) in
-    lawful_image Q variables is.small.variables instances is.small.instances is.small.code (lines_lawful Q Q.code is.code (typed_lines Q (faultless Q is.typed))) is.typed
+    lawful_image Q variables instances is.small (lines_lawful Q Q.code is.code (typed_lines Q (faultless Q is.typed))) is.typed
 
 -- ---- what is read of an image is lawful
 
@@ -912,7 +912,7 @@ well_formed Q is =
     let labels = labels_named 0 Q.code (items_all IsMark (λ (m : Mark). IsName m.name) mark_named [] (marks_from 0 Q.code) text.labels) in
     let words = items_all (λ seen. IsWord Q) (IsWord Q) (λ seen line w. w) [] Q.code text.words in
     record {
-      small = record { variables = text.variables_few; instances = text.instances_few; code = is.short };
+      small = record { variables = text.variables_few; instances = text.instances_few; code = is.short; words = is.uncrowded };
       variables = items_all fitting.IsVariable IsVariable variable_is [] Q.variables text.variables;
       instances = all_map (IsOwnName Q.variables) (λ (x : Instance). IsName x.name) (λ x own. own.name) Q.instances own;
       names = parts_distinct (map name_of Q.variables) (map instance_name Q.instances) (record { first = apart_names Q.variables variables.1; second = apart_instances Q.instances instances.1; across = names_across Q.variables Q.instances own });

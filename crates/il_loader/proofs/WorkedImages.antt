@@ -79,7 +79,7 @@ other_names e = let first : 88 ≡ 89 = ap (λ (name : List ℕ). get_or name 0 
 
 copying_is : IsWellFormed copying
 copying_is = record {
-  small = record { variables = (let le : 2 ≤ 512 = omega arith in le); instances = (let le : 0 ≤ 128 = omega arith in le); code = (let le : 2 ≤ 4096 = omega arith in le) };
+  small = record { variables = (let le : 2 ≤ 4096 = omega arith in le); instances = (let le : 0 ≤ 1024 = omega arith in le); code = (let le : 2 ≤ 16384 = omega arith in le); words = refl };
   variables = (record { name = x_named; type = refl; range = refl; location = x_lies }, (record { name = y_named; type = refl; range = refl; location = y_lies }, tt));
   instances = tt;
   names = ((other_names, tt), (tt, tt));

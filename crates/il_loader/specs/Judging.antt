@@ -148,11 +148,11 @@ abbrev pub small : Option Program → Result Program LoadFault
 small None = Err BadCount
 small (Some Q) = Ok Q
 
--- the program of the tables, where its labels rise, its words are spelled and typed, its constants are used, and the
--- version is its own
+-- the program of the tables, where its version has room for it, its labels rise, its words are spelled and typed, its
+-- constants are used, and the version is its own
 unfoldable pub judged_tables : ℕ → Tables → Result Program LoadFault
 judged_tables total t = do
-  Q ← small (program_of t.variables t.instances (lines_of t.instances t.words))
+  Q ← small (program_of t.version t.variables t.instances (lines_of t.instances t.words))
   rising ← risen (constant_place t.version total (length t.words) (length t.constants) 0) 0 t.words t.labels
   fine ← words_fine total (length t.words) (misspelled t.words (used_from 0 0 t.words)) (at_word Q (judgement_of Q))
   used ← all_used t.version total (length t.words) (length t.constants) (used_from 0 0 t.words)

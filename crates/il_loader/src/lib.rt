@@ -26,6 +26,7 @@ mod laws;
 mod line;
 mod linking;
 mod loading;
+mod numbers;
 mod operands;
 mod reading;
 mod tables;

@@ -4,6 +4,7 @@ use Rattle.std.specs.Prelude.{map, slice_get, is_some, not, ◌&&◌, ◌||◌}
 use Rattle.std.specs.List.{list_any, AllByRecursion}
 use Rattle.std.proofs.lemmas.Bool.{or_right}
 use Rattle.std.proofs.lemmas.Option.{slice_get_within}
+use Rattle.std.proofs.lemmas.List.{length-map}
 use Rattle.std.proofs.lemmas.List.Folds.{list_any-append}
 use Rattle.std.proofs.lemmas.Slice.Eq.{bytes_eq-Decides}
 use Rattle.il_values.specs.declared.value.Ty.{Ty}
@@ -258,3 +259,18 @@ literals_few Q (line ∷ code) are =
     let one = (short_line Q line are.0).literals in
     let more = literals_few Q code are.1 in
     omega (arith, literal_count-append (operands_in line) (operands_of code))
+
+literals_within : (os : List Operand) → literal_count os ≤ length os
+literals_within [] = omega arith
+literals_within (o ∷ os) =
+    let one = one_at_most (is_some (operand_literal o)) in
+    let more = literals_within os in
+    omega arith
+
+-- each word has one at most
+pub literals_in_words : (code : List Instr) → literal_count (operands_of code) ≤ words_in code
+literals_in_words [] = omega arith
+literals_in_words (line ∷ code) =
+    let one = literals_within (operands_in line) in
+    let more = literals_in_words code in
+    omega (arith, one, more, literal_count-append (operands_in line) (operands_of code), length-map line.arguments (λ (a : Argument). a.operand))

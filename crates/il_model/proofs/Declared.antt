@@ -41,7 +41,7 @@ pub record StandsAt (ds : Declarations) (constants : List Value) (o : Operand) (
 
 -- ---- variables
 
-pub variable_stands : (ds : Declarations) (constants : List Value) (name : List ℕ) (i : ℕ) → length ds.variables ≤ 512 → position (λ (v : Variable). same_name v.name name) ds.variables ≡ Some i
+pub variable_stands : (ds : Declarations) (constants : List Value) (name : List ℕ) (i : ℕ) → length ds.variables ≤ 4096 → position (λ (v : Variable). same_name v.name name) ds.variables ≡ Some i
     → StandsAt ds constants (operands.Variable name) (coded.Variable i)
 variable_stands ds constants name i few e =
     let f = found_at (λ (v : Variable). same_name v.name name) ds.variables i e in
@@ -96,7 +96,7 @@ pub map_some : {A B : Type 0} (o : Option A) (f : A → B) (y : B) → option_ma
 map_some None f y e = absurd cc
 map_some (Some x) f y e = (x, refl)
 
-field_joins : (ds : Declarations) (constants : List Value) (name field : List ℕ) (i n : ℕ) (x : Instance) → length ds.instances ≤ 128
+field_joins : (ds : Declarations) (constants : List Value) (name field : List ℕ) (i n : ℕ) (x : Instance) → length ds.instances ≤ 1024
     → instance_in ds.instances name ≡ Some i → slice_get ds.instances i ≡ Some x → field_number x.kind field ≡ Some n → StandsAt ds constants (operands.Field name field) (coded.Field i n)
 field_joins ds constants name field i n x few called there numbered =
     let f = found_at (λ (x : Instance). same_name x.name name) ds.instances i called in
@@ -117,7 +117,7 @@ pub record IsFieldAt (ds : Declarations) (constants : List Value) (name field : 
   pub number : ℕ
   pub stands : StandsAt ds constants (operands.Field name field) (coded.Field instance number)
 
-pub field_stands : (ds : Declarations) (constants : List Value) (name field : List ℕ) (place : Place) → length ds.instances ≤ 128 → field_in ds.instances name field ≡ Some place → IsFieldAt ds constants name field
+pub field_stands : (ds : Declarations) (constants : List Value) (name field : List ℕ) (place : Place) → length ds.instances ≤ 1024 → field_in ds.instances name field ≡ Some place → IsFieldAt ds constants name field
 field_stands ds constants name field place few e =
     let called = and_then_some (instance_in ds.instances name) (λ i. option_and_then (numbered_field i field) (slice_get ds.instances i)) place e in
     let there = and_then_some (slice_get ds.instances called.0) (numbered_field called.0 field) place called.2 in

@@ -4,6 +4,7 @@ use Rattle.std.specs.Prelude.{ℤ, pos, negsuc, map, slice_get, ◌||◌}
 use Rattle.std.specs.Option.{option_map, option_and_then}
 use Rattle.std.specs.List.{list_any, AllByRecursion}
 use Rattle.std.proofs.lemmas.Option.{slice_get_within}
+use Rattle.std.proofs.lemmas.List.{length-map}
 use Rattle.il_values.specs.declared.value.Ty.{Ty}
 use Rattle.il_values.specs.declared.value.Ty.TheVariants as types
 use Rattle.il_values.specs.declared.value.Value.{Value}
@@ -25,6 +26,7 @@ use Rattle.il_model.specs.Program.{Program, Declarations, declared_by}
 use Rattle.il_values.specs.Values.{ty_of, number_of, is_within, typed_value, bare_value}
 use Rattle.il_model.specs.Kinds.{any_field, field_type}
 use Rattle.il_model.specs.Typing.{Shape}
+use Rattle.il_model.specs.Marks.{word_count, words_in}
 use Rattle.il_model.specs.Checking.{shape_at, typing_end, HasNoTypeFault}
 use Rattle.il_model.specs.Codes.{usage_of, has_form, formed_by}
 use Rattle.il_model.specs.Fits.{IsVariable, IsInstance, AreItems, IsImage}
@@ -218,18 +220,39 @@ settled_lines P Q is t n line e =
 same_declared : (P Q : Program) → Q.variables ≡ P.variables → Q.instances ≡ P.instances → declared_by P ≡ declared_by Q
 same_declared P Q vs xs = cc
 
+same_words : (ps qs : List Instr) → length qs ≡ length ps → ((n : ℕ) (q : Instr) → slice_get qs n ≡ Some q → (p : Instr) × (slice_get ps n ≡ Some p) × (word_count q ≡ word_count p)) → words_in qs ≡ words_in ps
+same_words [] [] e each = refl
+same_words [] (q ∷ qs) e each = absurd cc
+same_words (p ∷ ps) [] e each = absurd cc
+same_words (p ∷ ps) (q ∷ qs) e each =
+    let one = each 0 q refl in
+    let here = one.1 in
+    let is : p ≡ one.0 = cc in
+    let more = same_words ps qs (omega (arith, e)) (λ n r h. each (suc n) r h) in
+    omega (arith, more, one.2, ap word_count is)
+
+-- as many words, since a bare number and its literal are one
+settled_words : (P Q : Program) → IsTypedProgramOf P Q → words_in Q.code ≡ words_in P.code
+settled_words P Q t = same_words P.code Q.code t.count (λ n line e.
+    let lt : n < length Q.code = slice_get_within Q.code n line e in
+    let whole = typed_shape Q (faultless Q t.typed) in
+    let sh = ok_before Q (length Q.code) whole.0 whole.1 n (omega arith) in
+    let at = arrives Q n sh.0 (omega arith) sh.1 in
+    let m = mapped_some (settled_line sh.0.cr) (slice_get P.code n) line (sym (t.placed n sh.0 at) ∙ e) in
+    let settled : settled_line sh.0.cr m.0 ≡ line = m.2 in
+    (m.0, m.1, omega (arith, ap word_count settled, length-map m.0.arguments settled_argument)))
+
 declared_fits : (P Q : Program) → IsDeclared P → IsTypedProgramOf P Q → IsImage Q
 declared_fits P Q is t =
     let vs : Q.variables ≡ P.variables = t.variables in
     let xs : Q.instances ≡ P.instances = t.instances in
     let lines : AreLawful (declared_by P) Q.code = all_lawful (declared_by P) Q.code (settled_lines P Q is t) in
     let instances : AreItems (IsInstance Q.variables) [] P.instances = subst (λ (seen : List Variable). AreItems (IsInstance seen) [] P.instances) (sym vs) is.instances in
+    let words : words_in Q.code ≡ words_in P.code = settled_words P Q t in
     lawful_image Q
     (subst (AreItems IsVariable []) (sym vs) is.variables)
-    (rw vs is.variables_few)
     (subst (AreItems (IsInstance Q.variables) []) (sym xs) instances)
-    (rw xs is.instances_few)
-    (rw t.count is.lines_few)
+    (record { variables = rw vs is.variables_few; instances = rw xs is.instances_few; code = rw t.count is.lines_few; words = rw (t.count, words) is.uncrowded })
     (subst (λ (ds : Declarations). AreLawful ds Q.code) (same_declared P Q vs xs) lines)
     t.typed
 

@@ -1,5 +1,5 @@
 -- A typed program whose parts are lawful each for itself has an image.
-use Rattle.std.proofs.Common.{inl, inr, ◌⊎◌, ◌≡◌, ℕ, suc, ◌+◌, ◌^◌, ◌<◌, ◌≤◌, Bool, true, false, cond, ltb, List, [], ◌∷◌, ◌++◌, length, get_or, Option, Some, None, Ok, refl, sym, ap, subst, ◌∙◌, append_assoc, arith}
+use Rattle.std.proofs.Common.{inl, inr, ◌⊎◌, ◌≡◌, ℕ, suc, ◌+◌, ◌*◌, ◌^◌, ◌<◌, ◌≤◌, Bool, true, false, cond, ltb, List, [], ◌∷◌, ◌++◌, length, get_or, Option, Some, None, Ok, refl, sym, ap, subst, ◌∙◌, append_assoc, arith}
 use Rattle.std.specs.Prelude.{ℤ, pos, negsuc, nat_abs, map, slice_get, is_some, not, nat_eq, ◌&&◌, ◌||◌}
 use Rattle.std.specs.List.{position, AllByRecursion}
 use Rattle.std.specs.Option.{option_map, option_and_then}
@@ -37,7 +37,7 @@ use Rattle.il_values.specs.Values.{ty_of, number_of, typed_value}
 use Rattle.il_values.specs.Operators.{same_truth, same_number}
 use Rattle.il_model.specs.Words.{same_name, is_lawful_name}
 use Rattle.il_model.specs.Kinds.{field_name}
-use Rattle.il_model.specs.Program.{Program, Declarations, declared_by}
+use Rattle.il_model.specs.Program.{Program, Declarations, declared_by, IsSmall}
 use Rattle.il_model.specs.Resolved.{has_label, target_of, instance_in, field_of, source_of, called_kind}
 use Rattle.il_model.specs.Typing.{IsTyped}
 use Rattle.il_model.specs.Checking.{shape_at, typing_end, label_row, arguments_fault, HasNoTypeFault}
@@ -58,7 +58,8 @@ use Rattle.il_model.proofs.Marks.{words_in-append, address_small, table_labels, 
 use Rattle.il_model.proofs.ConstantLists.{same_self, constants_grow}
 use Rattle.il_model.proofs.CodedOperands.{coded_again, own_small}
 use Rattle.il_model.proofs.Declared.{StandsAt, variable_stands, map_some, instance_again, field_so, field_stands}
-use Rattle.il_model.proofs.Calls.{IsTypedLine, typed_lines, words_few, literal_count, literals_few}
+use Rattle.il_model.proofs.Calls.{IsTypedLine, typed_lines, words_few, literal_count, literals_few, literals_in_words}
+use Rattle.il_model.proofs.Sizes.{words_small, constants_small}
 
 again : {A : Type 0} (test : A → Bool) (o : Option A) (x : A) → o ≡ Some x → test x ≡ true → option_and_then (if_passes test) o ≡ Some x
 again test o x e h = rw (e, h) refl
@@ -523,7 +524,7 @@ stands_again ds cs o x at =
     let read : value_operand ds cs (code_of x) ≡ Some o = ap (option_and_then (named_operand ds cs)) (coded_again x at.own) ∙ at.named in
     subst (λ (y : CodedOperand). IsRead ds cs o (code_of y)) (sym at.coded) (record { read = read; small = own_small x at.own })
 
-variable_by : (o : Option ℕ) (ds : Declarations) (cs : List Value) (name : List ℕ) → length ds.variables ≤ 512 → position (λ (v : Variable). same_name v.name name) ds.variables ≡ o → is_some o ≡ true
+variable_by : (o : Option ℕ) (ds : Declarations) (cs : List Value) (name : List ℕ) → length ds.variables ≤ 4096 → position (λ (v : Variable). same_name v.name name) ds.variables ≡ o → is_some o ≡ true
     → IsRead ds cs (operands.Variable name) (code_of (coded_operand ds cs (operands.Variable name)))
 variable_by None ds cs name few e h = absurd cc
 variable_by (Some i) ds cs name few e h = stands_again ds cs (operands.Variable name) (coded.Variable i) (variable_stands ds cs name i few e)
@@ -534,7 +535,7 @@ constant_there (c ∷ cs) v k e =
     let r = position-Some (same_value v) (c ∷ cs) k c e in
     slice_get-get_or (c ∷ cs) k c r.0 ∙ ap (λ (x : Value). Some x) (sym (same_value_is v (get_or (c ∷ cs) k c) r.1))
 
-constant_by : (o : Option ℕ) (ds : Declarations) (cs : List Value) (v : Value) → length cs ≤ 20480 → position (same_value v) cs ≡ o → is_some o ≡ true → IsRead ds cs (operands.Literal v) (code_of (coded_literal cs v))
+constant_by : (o : Option ℕ) (ds : Declarations) (cs : List Value) (v : Value) → length cs ≤ 32767 → position (same_value v) cs ≡ o → is_some o ≡ true → IsRead ds cs (operands.Literal v) (code_of (coded_literal cs v))
 constant_by None ds cs v few e h = absurd cc
 constant_by (Some k) ds cs v few e h =
     let lt = place_below (same_value v) cs k e in
@@ -542,9 +543,9 @@ constant_by (Some k) ds cs v few e h =
 
 -- what an image has room for
 record HasRoom (Q : Program) : Type 0 where
-  variables : length Q.variables ≤ 512
-  instances : length Q.instances ≤ 128
-  constants : length (constants_of Q) ≤ 20480
+  variables : length Q.variables ≤ 4096
+  instances : length Q.instances ≤ 1024
+  constants : length (constants_of Q) ≤ 32767
   words : words_in Q.code ≤ 36864
 
 -- a value or a place that stands for something
@@ -803,28 +804,42 @@ none_known x e = cc
 
 -- ---- the whole
 
-pub lawful_image : (Q : Program) → AreItems IsVariable [] Q.variables → length Q.variables ≤ 512 → AreItems (IsInstance Q.variables) [] Q.instances → length Q.instances ≤ 128 → length Q.code ≤ 4096
-    → AreLawful (declared_by Q) Q.code → IsTyped Q → IsImage Q
-lawful_image Q variables few instances instances-few short lawful typed =
+-- five constants an instruction
+five_few : (Q : Program) → IsTyped Q → length (constants_of Q) ≤ 5 * length Q.code
+five_few Q typed =
+    let literals = constants_few (operands_of Q.code) [] in
+    let more = literals_few Q Q.code (typed_lines Q (faultless Q typed)) in
+    omega (arith, literals, more)
+
+pub five_at_most : (Q : Program) → IsImage Q → length (constants_of Q) ≤ 5 * length Q.code
+five_at_most Q is = five_few Q is.typed
+
+pub lawful_image : (Q : Program) → AreItems IsVariable [] Q.variables → AreItems (IsInstance Q.variables) [] Q.instances → IsSmall Q → AreLawful (declared_by Q) Q.code → IsTyped Q → IsImage Q
+lawful_image Q variables instances small lawful typed =
     let fine = faultless Q typed in
     let lines = typed_lines Q fine in
-    let words-few : words_in Q.code ≤ 36864 = (let le = words_few Q Q.code lines in omega arith) in
-    let cs-few : length (constants_of Q) ≤ 20480 = (let le = constants_few (operands_of Q.code) [] in let more = literals_few Q Q.code lines in omega arith) in
+    let short : length Q.code ≤ 16384 = small.code in
+    let words-few : words_in Q.code ≤ 36864 = words_small (length Q.code) (words_in Q.code) small.words (words_few Q Q.code lines) in
+    let literals : length (constants_of Q) ≤ literal_count (operands_of Q.code) = (let le = constants_few (operands_of Q.code) [] in omega (arith, le)) in
+    let five = five_few Q typed in
+    let within : length (constants_of Q) ≤ words_in Q.code = (let more = literals_in_words Q.code in omega (arith, literals, more)) in
+    let cs-few : length (constants_of Q) ≤ 32767 = constants_small (length Q.code) (words_in Q.code) (length (constants_of Q)) small.words five within in
     let ms-few : length (marks_from 0 Q.code) ≤ length Q.code = marks_few Q.code 0 in
-    let room : HasRoom Q = record { variables = few; instances = instances-few; constants = cs-few; words = words-few } in
+    let room : HasRoom Q = record { variables = small.variables; instances = small.instances; constants = cs-few; words = words-few } in
     record {
       text = record {
         variables = variables;
-        variables_few = few;
+        variables_few = small.variables;
         instances = instances;
-        instances_few = instances-few;
+        instances_few = small.instances;
         labels = marks_fit Q [] [] Q.code words-few fine refl (record { each = λ x e. absurd (none_known x e) }) lawful;
-        labels_few = omega arith;
+        labels_few = omega (arith, ms-few, short);
         constants = constants_fit (declared_by Q) (operands_of Q.code) [] (operands_fit (declared_by Q) Q.code lawful) tt;
         constants_few = cs-few;
         words = words_fit Q [] Q.code room lawful lines (literals_known (operands_of Q.code) []);
         words_few = words-few;
       };
-      short = short;
+      short = small.code;
+      uncrowded = small.words;
       typed = typed;
     }

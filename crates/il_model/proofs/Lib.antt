@@ -1,6 +1,7 @@
 pub mod RowTypes
 pub mod TypedLines
 pub mod Room
+pub mod Sizes
 pub mod Loop
 pub mod Marks
 pub mod ConstantLists

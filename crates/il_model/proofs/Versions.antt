@@ -1,5 +1,5 @@
 -- Numbers, types and operators of an image of a version read back.
-use Rattle.std.proofs.Common.{◌≡◌, ℕ, ◌<◌, ◌≤◌, ◌^◌, Bool, true, false, cond, ltb, List, map, [], ◌∷◌, ◌++◌, Option, Some, None, refl, sym, ap, subst, arith}
+use Rattle.std.proofs.Common.{◌≡◌, ℕ, ◌<◌, ◌≤◌, ◌^◌, Bool, true, false, cond, ltb, List, map, length, [], ◌∷◌, ◌++◌, Option, Some, None, refl, sym, ap, subst, arith}
 use Rattle.std.specs.Prelude.{ℤ, pos, negsuc, not, nat_eq, zero, suc}
 use Rattle.std.specs.List.{list_all, AllByRecursion}
 use Rattle.std.specs.Option.{option_and_then}
@@ -18,21 +18,23 @@ use Rattle.il_model.specs.declared.program.Variable.{Variable}
 use Rattle.il_model.specs.declared.program.Instance.{Instance}
 use Rattle.il_model.specs.declared.program.Instr.{Instr}
 use Rattle.il_values.specs.Values.{ty_of, number_of, is_within, truth_made, typed_value}
-use Rattle.il_model.specs.Image.{type_code, version_number, number_width, type_version, value_version, op_version, may_have, may_lie, may_call, may_label, may_declare, may_instantiate, may_keep, may_name, may_write, suffices, version_with}
+use Rattle.il_model.specs.Image.{type_code, version_number, number_width, type_version, value_version, op_version, may_have, may_lie, may_call, may_label, may_declare, may_instantiate, may_keep, may_name, may_write, may_have_all, suffices, version_with, version_of}
 use Rattle.il_values.specs.OpCodes.{op_code}
-use Rattle.il_model.specs.Constants.{operands_in}
+use Rattle.il_model.specs.Constants.{operands_in, constants_of}
 use Rattle.il_model.specs.Codes.{if_passes, may_start_with, type_of, type_in, op_in, version_numbered, initial_of, is_known}
 use Rattle.il_values.specs.OpCodes.{op_of}
 use Rattle.il_model.specs.Codes.{coded_location, coded_location_in, word_operand, word_operand_in, argument_operand, argument_operand_in}
-use Rattle.il_model.specs.Program.{Declarations}
+use Rattle.il_model.specs.Program.{Program, Declarations}
+use Rattle.il_model.specs.Limits.{most_instructions, most_constants, has_room}
 use Rattle.il_model.specs.Marks.{Mark}
 use Rattle.il_values.specs.declared.op.Modifier.{Modifier}
 use Rattle.il_model.specs.declared.program.Operand.{Operand}
 use Rattle.il_model.specs.declared.program.Argument.{Argument}
 use Rattle.std.proofs.lemmas.List.Folds.{list_all-map}
-use Rattle.il_model.specs.Fits.{IsVariable, IsConstant, AreItems}
+use Rattle.il_model.specs.Fits.{IsVariable, IsConstant, AreItems, IsImage}
 use Rattle.il_model.proofs.LiteralLaws.{IsValue}
-use Rattle.il_model.proofs.Lawful.{listed, type_again}
+use Rattle.il_model.proofs.Lawful.{listed, type_again, five_at_most}
+use Rattle.il_model.proofs.Sizes.{IsWithin, within_room, room_within}
 use Rattle.il_model.proofs.SettledPrograms.{made_number}
 use Rattle.il_values.proofs.RealValues.{real_is}
 use Rattle.il_values.proofs.BitValues.{bits_are, bits_small}
@@ -145,26 +147,49 @@ label_three None = refl
 label_three (Some name) = refl
 
 -- the third version may have everything
-three_suffices : (variables : List Variable) (instances : List Instance) (constants : List Value) (code : List Instr) → suffices versions.Three variables instances constants code ≡ true
-three_suffices variables instances constants code =
+three_may : (variables : List Variable) (instances : List Instance) (constants : List Value) (code : List Instr) → may_have_all versions.Three variables instances constants code ≡ true
+three_may variables instances constants code =
     rw (all_yes (may_declare versions.Three) (λ v. refl) variables, all_yes (may_instantiate versions.Three) (λ x. refl) instances, all_yes (may_keep versions.Three) (λ v. refl) constants) (all_yes (may_write versions.Three) (λ line. rw (label_three line.label) (all_yes (may_name versions.Three) (λ x. refl) (operands_in line))) code)
 
-first_suffices : (variables : List Variable) (instances : List Instance) (constants : List Value) (code : List Instr) (a b : Bool) → suffices versions.One variables instances constants code ≡ a → suffices versions.Two variables instances constants code ≡ b
-    → let version : Version = cond a versions.One (cond b versions.Two versions.Three) in suffices version variables instances constants code ≡ true
-first_suffices variables instances constants code true b e f = e
-first_suffices variables instances constants code false true e f = f
-first_suffices variables instances constants code false false e f = three_suffices variables instances constants code
+first_may : (variables : List Variable) (instances : List Instance) (constants : List Value) (code : List Instr) (a b : Bool) → suffices versions.One variables instances constants code ≡ a → suffices versions.Two variables instances constants code ≡ b
+    → let version : Version = cond a versions.One (cond b versions.Two versions.Three) in may_have_all version variables instances constants code ≡ true
+first_may variables instances constants code true b e f = (and_yes (has_room versions.One variables instances code) (may_have_all versions.One variables instances constants code) e).1
+first_may variables instances constants code false true e f = (and_yes (has_room versions.Two variables instances code) (may_have_all versions.Two variables instances constants code) f).1
+first_may variables instances constants code false false e f = three_may variables instances constants code
+
+first_room : (variables : List Variable) (instances : List Instance) (constants : List Value) (code : List Instr) (a b : Bool) → has_room versions.Three variables instances code ≡ true → suffices versions.One variables instances constants code ≡ a → suffices versions.Two variables instances constants code ≡ b
+    → let version : Version = cond a versions.One (cond b versions.Two versions.Three) in has_room version variables instances code ≡ true
+first_room variables instances constants code true b room e f = (and_yes (has_room versions.One variables instances code) (may_have_all versions.One variables instances constants code) e).0
+first_room variables instances constants code false true room e f = (and_yes (has_room versions.Two variables instances code) (may_have_all versions.Two variables instances constants code) f).0
+first_room variables instances constants code false false room e f = room
 
 -- the version of a program may have what the program has
 pub version_may : (variables : List Variable) (instances : List Instance) (constants : List Value) (code : List Instr)
     → let version = version_with variables instances constants code in (list_all (may_declare version) variables ≡ true) × (list_all (may_instantiate version) instances ≡ true) × (list_all (may_keep version) constants ≡ true) × (list_all (may_write version) code ≡ true)
 version_may variables instances constants code =
     let version = version_with variables instances constants code in
-    let all = first_suffices variables instances constants code (suffices versions.One variables instances constants code) (suffices versions.Two variables instances constants code) refl refl in
+    let all = first_may variables instances constants code (suffices versions.One variables instances constants code) (suffices versions.Two variables instances constants code) refl refl in
     let first = and_yes (list_all (may_declare version) variables) _ all in
     let next = and_yes (list_all (may_instantiate version) instances) _ first.1 in
     let rest = and_yes (list_all (may_keep version) constants) (list_all (may_write version) code) next.1 in
     (first.0, next.0, rest.0, rest.1)
+
+-- a version has room for what a program of it has
+pub version_within : (Q : Program) → IsImage Q → IsWithin (version_of Q) Q.variables Q.instances Q.code
+version_within Q is =
+    let cs = constants_of Q in
+    let room = room_within versions.Three Q.variables Q.instances Q.code (record { variables = is.text.variables_few; instances = is.text.instances_few; code = is.short; words = is.uncrowded }) in
+    within_room (version_of Q) Q.variables Q.instances Q.code
+    (first_room Q.variables Q.instances cs Q.code (suffices versions.One Q.variables Q.instances cs Q.code) (suffices versions.Two Q.variables Q.instances cs Q.code) room refl refl)
+
+constants_within : (version : Version) (Q : Program) → IsImage Q → length Q.code ≤ most_instructions version → length (constants_of Q) ≤ most_constants version
+constants_within versions.One Q is few = let all = five_at_most Q is in omega (arith, all, few)
+constants_within versions.Two Q is few = let all = five_at_most Q is in omega (arith, all, few)
+constants_within versions.Three Q is few = is.text.constants_few
+
+-- and for its constants
+pub version_constants : (Q : Program) → IsImage Q → length (constants_of Q) ≤ most_constants (version_of Q)
+version_constants Q is = constants_within (version_of Q) Q is (version_within Q is).code
 
 pub any_may : {A : Type 0} (may : A → Bool) (xs : List A) → list_all may xs ≡ true → AllByRecursion (λ x. may x ≡ true) xs
 any_may may [] e = tt

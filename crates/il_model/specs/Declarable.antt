@@ -11,6 +11,8 @@ use Rattle.il_model.specs.declared.program.Instr.{Instr}
 use Rattle.il_model.specs.declared.limits.TheConstants.{MOST_VARIABLES, MOST_INSTANCES, MOST_INSTRUCTIONS}
 use Rattle.il_values.specs.Values.{is_within}
 use Rattle.il_model.specs.Program.{Program, Declarations, declared_by}
+use Rattle.il_model.specs.Marks.{words_in}
+use Rattle.il_model.specs.Limits.{is_crowded}
 use Rattle.il_model.specs.Codes.{usage_of, allowed_by, formed_by, has_form, is_pointless}
 use Rattle.il_model.specs.Lawful.{IsOperandOf, IsLabel}
 use Rattle.il_model.specs.Fits.{IsVariable, IsInstance, AreItems}
@@ -44,3 +46,4 @@ pub record IsDeclared (P : Program) : Type 0 where
   pub instances_few : length P.instances ≤ MOST_INSTANCES
   pub lines : AllByRecursion (IsInstruction (declared_by P)) P.code
   pub lines_few : length P.code ≤ MOST_INSTRUCTIONS
+  pub uncrowded : is_crowded (length P.code) (words_in P.code) ≡ false

@@ -1,8 +1,10 @@
 -- The words, the literals and the locations of a text, by its dialect: those of every text, and in an extended text
--- more.
+-- more; and the version whose images have them.
 use Rattle.std.specs.Prelude.{ℕ, List, Option, Some, None}
 use Rattle.il_model.specs.declared.dialect.Dialect.{Dialect}
 use Rattle.il_model.specs.declared.dialect.Dialect.TheVariants as dialects
+use Rattle.il_model.specs.declared.codes.Version.{Version}
+use Rattle.il_model.specs.declared.codes.Version.TheVariants as versions
 use Rattle.il_values.specs.declared.function.Function.{Function}
 use Rattle.il_model.specs.declared.literal.Literal.{Literal}
 use Rattle.il_values.specs.declared.op.Op.TheVariants as ops
@@ -41,3 +43,8 @@ literal_in dialects.Extended text = extended_literal_of text
 abbrev pub location_in : Dialect → List ℕ → Option Loc
 location_in dialects.Plain text = location_of text
 location_in dialects.Extended text = extended_location_of text
+
+-- the last version whose images have what a text of the dialect may say
+abbrev pub newest : Dialect → Version
+newest dialects.Plain = versions.Two
+newest dialects.Extended = versions.Three

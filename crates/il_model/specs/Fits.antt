@@ -14,12 +14,14 @@ use Rattle.il_model.specs.declared.program.Argument.{Argument}
 use Rattle.il_model.specs.declared.program.Operand.{Operand}
 use Rattle.il_model.specs.declared.program.Instr.{Instr}
 use Rattle.il_model.specs.declared.limits.TheConstants.{MOST_VARIABLES, MOST_INSTANCES, MOST_INSTRUCTIONS}
+use Rattle.il_model.specs.declared.limits.TheConstants.{MOST_WORDS, MOST_IMAGE_WORDS}
 use Rattle.il_values.specs.Values.{ty_of, number_of}
 use Rattle.il_model.specs.Program.{Program, Declarations, declared_by}
 use Rattle.il_model.specs.Kinds.{field_number}
 use Rattle.il_model.specs.Resolved.{called_kind}
 use Rattle.il_model.specs.Typing.{IsTyped}
 use Rattle.il_model.specs.Marks.{Mark, marks_from, words_in}
+use Rattle.il_model.specs.Limits.{is_crowded}
 use Rattle.il_model.specs.Constants.{constants_of}
 use Rattle.il_model.specs.Image.{type_code, location_code, modifier_code, operand_code}
 use Rattle.il_values.specs.OpCodes.{op_code}
@@ -94,11 +96,12 @@ pub record IsProgram (Q : Program) : Type 0 where
   pub labels : AreItems IsMark [] (marks_from 0 Q.code)
   pub labels_few : length (marks_from 0 Q.code) ≤ MOST_INSTRUCTIONS
   pub constants : AreItems IsConstant [] (constants_of Q)
-  pub constants_few : length (constants_of Q) ≤ 20480
+  pub constants_few : length (constants_of Q) ≤ MOST_WORDS
   pub words : AreItems (λ seen. IsWord Q) [] Q.code
-  pub words_few : words_in Q.code ≤ 36864
+  pub words_few : words_in Q.code ≤ MOST_IMAGE_WORDS
 
 pub record IsImage (Q : Program) : Type 0 where
   pub text : IsProgram Q
   pub short : length Q.code ≤ MOST_INSTRUCTIONS
+  pub uncrowded : is_crowded (length Q.code) (words_in Q.code) ≡ false
   pub typed : IsTyped Q

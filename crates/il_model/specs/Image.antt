@@ -37,6 +37,7 @@ use Rattle.il_model.specs.Program.{Program, Declarations, declared_by}
 use Rattle.il_model.specs.Kinds.{kind_code, field_number}
 use Rattle.il_model.specs.Resolved.{target_of, instance_in, field_in, called_kind}
 use Rattle.il_model.specs.Marks.{Mark, marks_from, words_in, address_of}
+use Rattle.il_model.specs.Limits.{has_room}
 use Rattle.il_model.specs.Constants.{same_value, constants_of, operands_in}
 use Rattle.il_values.specs.OpCodes.{op_code}
 
@@ -155,13 +156,18 @@ abbrev pub may_write : Version → Instr → Bool
 may_write version line = may_label version line.label
     && (may_have version (op_version line.op) && list_all (may_name version) (operands_in line))
 
--- an image of a version may have all of this
-abbrev pub suffices : Version → List Variable → List Instance → List Value → List Instr → Bool
-suffices version variables instances constants code = list_all (may_declare version) variables
+-- an image of a version may have each of these
+abbrev pub may_have_all : Version → List Variable → List Instance → List Value → List Instr → Bool
+may_have_all version variables instances constants code = list_all (may_declare version) variables
     && (list_all (may_instantiate version) instances
     && (list_all (may_keep version) constants && list_all (may_write version) code))
 
--- the first version that suffices; the third always does
+-- and it has room for so many
+abbrev pub suffices : Version → List Variable → List Instance → List Value → List Instr → Bool
+suffices version variables instances constants code =
+    has_room version variables instances code && may_have_all version variables instances constants code
+
+-- the first version that suffices; the third may have everything, and has room for each program
 abbrev pub version_with : List Variable → List Instance → List Value → List Instr → Version
 version_with variables instances constants code =
     if suffices versions.One variables instances constants code then versions.One

@@ -1,6 +1,7 @@
 pub mod Words
 pub mod Locations
 pub mod Doubles
+pub mod Limits
 pub mod Program
 pub mod Resolved
 pub mod Row

@@ -9,7 +9,7 @@ ghost use Rattle.il_values.specs.OpCodes.{op_code};
 ghost use Rattle.il_model.specs.Image.{location_version, place_version, operand_version, retained_version, may_have};
 ghost use Rattle.il_model.specs.Image.{may_lie, may_retain, may_declare, may_instantiate, may_keep, declared_code};
 ghost use Rattle.il_model.specs.Image.{name_version, may_call, may_label};
-ghost use Rattle.il_model.specs.Image.{may_name, may_write, suffices, version_with, flag};
+ghost use Rattle.il_model.specs.Image.{may_name, may_write, may_have_all, suffices, version_with, flag};
 ghost use Rattle.il_model.specs.Image.{modifier_code, side_code};
 ghost use Rattle.il_model.specs.Constants.{operands_in};
 ghost use Rattle.il_model.specs.Codes.{longest_name, length_in};
@@ -86,7 +86,7 @@ pub fn is_type(ty: Ty, other: Option<Ty>) -> bool
 }
 
 /// The version of an image: from the second on each initial value and constant has 64 bits; the third came with REAL,
-/// bit strings, MIN, MAX, shifts and functions, double words and what is retained.
+/// bit strings, MIN, MAX, shifts and functions, double words and what is retained, and has room for more of each.
 #[derive(Clone, Copy, PartialEq, Eq)]
 pub enum Version {
     One,
@@ -239,7 +239,22 @@ impl Version {
         code.iter().all(|line| self.may_write(line))
     }
 
-    /// Whether an image of this version may have all of this.
+    fn may_have_all(
+        self,
+        variables: &[Variable],
+        instances: &[Instance],
+        constants: &[Value],
+        code: &[Instr],
+    ) -> bool
+        ensures { result ≡ may_have_all self variables.now instances.now constants.now code.now }
+    {
+        self.may_declare_all(variables)
+            && self.may_instantiate_all(instances)
+            && self.may_keep_all(constants)
+            && self.may_write_all(code)
+    }
+
+    /// Whether an image of this version may have all of this, and has room for it.
     fn suffices(
         self,
         variables: &[Variable],
@@ -249,10 +264,8 @@ impl Version {
     ) -> bool
         ensures { result ≡ suffices self variables.now instances.now constants.now code.now }
     {
-        self.may_declare_all(variables)
-            && self.may_instantiate_all(instances)
-            && self.may_keep_all(constants)
-            && self.may_write_all(code)
+        self.has_room(variables, instances, code)
+            && self.may_have_all(variables, instances, constants, code)
     }
 }
 

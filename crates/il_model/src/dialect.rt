@@ -3,8 +3,9 @@
 ghost use Rattle.std.specs.Prelude.{◌≡◌};
 ghost use Rattle.il_model.specs.Words.{plain, extended_mnemonic_of};
 ghost use Rattle.il_values.specs.Functions.{function_named};
-ghost use Rattle.il_model.specs.Dialects.{applied, or_function, operator_in, literal_in, location_in};
+ghost use Rattle.il_model.specs.Dialects.{applied, or_function, operator_in, literal_in, location_in, newest};
 
+use crate::codes::Version;
 use crate::literal::Literal;
 use crate::location::{extended_location, location};
 use crate::program::Loc;
@@ -60,6 +61,16 @@ impl Dialect {
         match (self, found) {
             (Dialect::Extended, None) => extended_operator(text),
             _ => found,
+        }
+    }
+
+    /// The last version whose images have what a text of this dialect may say.
+    pub fn newest(self) -> Version
+        ensures { result ≡ newest self }
+    {
+        match self {
+            Dialect::Plain => Version::Two,
+            Dialect::Extended => Version::Three,
         }
     }
 

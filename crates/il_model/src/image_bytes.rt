@@ -1,10 +1,25 @@
 //! The bytes that a change of the program brings.
 
 ghost use Rattle.std.specs.Prelude.{◌≡◌, ◌≤◌, ◌↔◌, length, IfOk, IfSome, IsSome};
+ghost use Rattle.il_model.specs.Limits.{is_short_image, is_long_image};
 
-use crate::limits::MOST_IMAGE_BYTES;
+use crate::limits::{MOST_IMAGE_BYTES, SHORT_IMAGE_BYTES};
 use std::alloc::{AllocError, Global};
 use std::marker::Model;
+
+/// Whether bytes have the shorter of the two spellings that the image of a change may have.
+pub fn is_short_image(bytes: &[u8]) -> bool
+    ensures { result ≡ is_short_image bytes.now }
+{
+    bytes.len() <= SHORT_IMAGE_BYTES
+}
+
+/// Whether they have the longer one.
+pub fn is_long_image(bytes: &[u8]) -> bool
+    ensures { result ≡ is_long_image bytes.now }
+{
+    !is_short_image(bytes) && bytes.len() <= MOST_IMAGE_BYTES
+}
 
 /// Bytes that are meant as the image of a program, `MOST_IMAGE_BYTES` at most.
 #[derive(Debug, Drop)]

@@ -2,8 +2,9 @@
 
 ghost use Rattle.std.specs.Prelude.{◌≡◌};
 
+use crate::codes::Version;
 use crate::kind::BlockKind;
-use crate::limits::{BITS, MOST_INSTANCES, MOST_INSTRUCTIONS, MOST_VARIABLES, WORDS};
+use crate::limits::{BITS, WORDS};
 use crate::location::begins_double;
 use crate::name::Name;
 use il_values::{Modifier, Op, Ty, Value};
@@ -298,7 +299,7 @@ pub struct Instr {
 }
 
 /// A program: its declarations and its instructions, in their order; at most `MOST_VARIABLES`, `MOST_INSTANCES` and
-/// `MOST_INSTRUCTIONS` of them.
+/// `MOST_INSTRUCTIONS` of them, and no more words than there is room for.
 #[derive(Drop)]
 pub struct Program {
     pub variables: Vec<Variable>,
@@ -307,8 +308,10 @@ pub struct Program {
 }
 
 impl Model for Program {
-    ghost use Rattle.std.specs.Prelude.{◌≤◌, length};
+    ghost use Rattle.std.specs.Prelude.{◌≡◌, ◌≤◌, false, length};
     ghost use Rattle.il_model.specs.declared.limits.TheConstants.{MOST_VARIABLES, MOST_INSTANCES, MOST_INSTRUCTIONS};
+    ghost use Rattle.il_model.specs.Marks.{words_in};
+    ghost use Rattle.il_model.specs.Limits.{is_crowded};
     ghost use Rattle.il_model.specs.Program.{Program};
 
     ghost Value = { Program };
@@ -316,31 +319,32 @@ impl Model for Program {
     ghost view = { λ p. record { variables = p.variables.items; instances = p.instances.items; code = p.code.items } };
 
     ghost invariant = { λ p. (length p.variables.items ≤ MOST_VARIABLES) × (length p.instances.items ≤ MOST_INSTANCES)
-        × (length p.code.items ≤ MOST_INSTRUCTIONS) };
+        × (length p.code.items ≤ MOST_INSTRUCTIONS)
+        × (is_crowded (length p.code.items) (words_in p.code.items) ≡ false) };
 }
 
 impl Program {
     ghost use Rattle.std.specs.Prelude.{◌≡◌};
     ghost use Rattle.il_model.specs.Program.{program_of};
 
-    /// The program of these parts, or none where they are too many.
+    /// The program of these parts, or none where an image of the version has no room for them.
+    #[tactic(auto, using(crate::proofs::Sizes::room_is_small))]
     pub fn new(
+        version: Version,
         variables: Vec<Variable>,
         instances: Vec<Instance>,
         code: Vec<Instr>,
     ) -> Option<Program>
-        ensures { result ≡ program_of variables.items instances.items code.items }
+        ensures { result ≡ program_of version variables.items instances.items code.items }
     {
-        if variables.len() > MOST_VARIABLES
-            || instances.len() > MOST_INSTANCES
-            || code.len() > MOST_INSTRUCTIONS
-        {
-            return None;
+        if version.has_room(variables.as_slice(), instances.as_slice(), code.as_slice()) {
+            Some(Program {
+                variables,
+                instances,
+                code,
+            })
+        } else {
+            None
         }
-        Some(Program {
-            variables,
-            instances,
-            code,
-        })
     }
 }

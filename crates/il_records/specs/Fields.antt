@@ -4,9 +4,10 @@ use Rattle.std.specs.Prelude.{Option, Some, None, Result, Ok, Err, nat_lt, nat_l
 use Rattle.std.specs.Int.{Width, w8, w16, w32, byte_len, from_be_bytes, cast_signed}
 use Rattle.il_values.specs.declared.value.Ty.{Ty}
 use Rattle.il_values.specs.declared.value.Value.{Value}
-use Rattle.il_model.specs.declared.limits.TheConstants.{MOST_VARIABLES, MOST_INSTANCES, MOST_INSTRUCTIONS}
+use Rattle.il_model.specs.declared.limits.TheConstants.{MOST_IMAGE_WORDS}
 use Rattle.il_model.specs.declared.program.Loc.{Loc}
 use Rattle.il_model.specs.declared.codes.Version.{Version}
+use Rattle.il_model.specs.Limits.{most_variables, most_instances, most_instructions, most_constants}
 use Rattle.il_model.specs.Image.{magic, number_width}
 use Rattle.il_model.specs.Codes.{length_in, type_in, version_numbered, initial_of, constant_of, retained_in, plain_code}
 use Rattle.il_records.specs.declared.counts.Counts.{Counts}
@@ -53,13 +54,14 @@ agrees fault false = Err fault
 abbrev pub count_at : ℕ → List ℕ → Result (ℕ × List ℕ) LoadFault
 count_at limit bytes = number_at w16 bytes >>= λ n. agrees BadCount (nat_le n.0 limit) >>= λ _. Ok n
 
-unfoldable pub counts_at : List ℕ → Result (Counts × List ℕ) LoadFault
-counts_at bytes = do
-  variables ← count_at MOST_VARIABLES bytes
-  instances ← count_at MOST_INSTANCES variables.1
-  labels ← count_at MOST_INSTRUCTIONS instances.1
-  constants ← count_at 20480 labels.1
-  words ← count_at 36864 constants.1
+-- no more of each than an image of this version has room for
+unfoldable pub counts_at : Version → List ℕ → Result (Counts × List ℕ) LoadFault
+counts_at version bytes = do
+  variables ← count_at (most_variables version) bytes
+  instances ← count_at (most_instances version) variables.1
+  labels ← count_at (most_instructions version) instances.1
+  constants ← count_at (most_constants version) labels.1
+  words ← count_at MOST_IMAGE_WORDS constants.1
   Ok (
     record {
       variables = variables.0;
@@ -81,7 +83,7 @@ header_at bytes = do
   is ← agrees BadMagic (nat_eq word.0 (from_be_bytes w32 magic))
   number ← number_at w16 word.1
   version ← lawful_version (version_numbered number.0)
-  counts ← counts_at number.1
+  counts ← counts_at version number.1
   Ok (version, counts.0, counts.1)
 
 -- ---- names

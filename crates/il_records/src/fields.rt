@@ -10,8 +10,8 @@ ghost use Rattle.il_records.specs.Fields.{constant_at};
 use crate::counts::Counts;
 use crate::fault::{LoadError, LoadFault};
 use il_model::{
-    Constants, Loc, MAGIC, MOST_INSTANCES, MOST_INSTRUCTIONS, MOST_VARIABLES, Ty, Value, Version,
-    initial_of, length_in, make, plain_code, retained_in, type_in,
+    Constants, Loc, MAGIC, MOST_IMAGE_WORDS, Ty, Value, Version, initial_of, length_in, make,
+    plain_code, retained_in, type_in,
 };
 
 /// A byte, and the bytes behind it; Truncated where there is none.
@@ -108,14 +108,14 @@ fn count_at(limit: usize, bytes: &[u8]) -> Result<(u16, &[u8]), LoadError>
 }
 
 #[tactic(auto, unfolding(crate::specs::Fields::counts_at))]
-fn counts_at(bytes: &[u8]) -> Result<(Counts, &[u8]), LoadError>
-    ensures { Gives (λ x. (x.0, x.1.now)) result (counts_at bytes.now) }
+fn counts_at(version: Version, bytes: &[u8]) -> Result<(Counts, &[u8]), LoadError>
+    ensures { Gives (λ x. (x.0, x.1.now)) result (counts_at version bytes.now) }
 {
-    let (variables, rest) = count_at(MOST_VARIABLES, bytes)?;
-    let (instances, rest) = count_at(MOST_INSTANCES, rest)?;
-    let (labels, rest) = count_at(MOST_INSTRUCTIONS, rest)?;
-    let (constants, rest) = count_at(20480, rest)?;
-    let (words, rest) = count_at(36864, rest)?;
+    let (variables, rest) = count_at(version.most_variables(), bytes)?;
+    let (instances, rest) = count_at(version.most_instances(), rest)?;
+    let (labels, rest) = count_at(version.most_instructions(), rest)?;
+    let (constants, rest) = count_at(version.most_constants(), rest)?;
+    let (words, rest) = count_at(MOST_IMAGE_WORDS, rest)?;
     Ok((
         Counts {
             variables,
@@ -147,7 +147,7 @@ pub fn header_at(bytes: &[u8]) -> Result<(Version, Counts, &[u8]), LoadError>
     agrees(LoadFault::BadMagic, magic == u32::from_be_bytes(MAGIC))?;
     let (number, rest) = u16_at(rest)?;
     let version = lawful_version(number)?;
-    let (counts, rest) = counts_at(rest)?;
+    let (counts, rest) = counts_at(version, rest)?;
     Ok((version, counts, rest))
 }
 

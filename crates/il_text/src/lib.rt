@@ -32,3 +32,4 @@ pub use imaging::{image, image_bytes};
 pub use line::{AnswerLine, put_line};
 pub use one_meaning::a_text_means_one_thing;
 pub use telling::{ended, put, put_numbered, tell};
+pub use units::place_behind;

@@ -27,7 +27,7 @@ use il_units::{Expansion, Flat, Unit, UnitError, Units, flattened};
 use std::alloc::Global;
 
 /// The place behind a byte that stands at a place.
-fn behind(here: Place, b: u8) -> Place
+pub fn place_behind(here: Place, b: u8) -> Place
     requires line { here.line < 2 ^ 63 }
     requires column { here.column < 2 ^ 63 }
     // Where this place is behind some bytes, that is behind those and the byte.
@@ -58,7 +58,7 @@ fn offset_of(text: &[u8], place: Place) -> usize
         if here == place {
             return i;
         }
-        here = behind(here, *b);
+        here = place_behind(here, *b);
     }
     text.len()
 }

@@ -10,7 +10,6 @@ use Rattle.il_units.specs.Words.{capitals}
 use Rattle.il_units.specs.Flats.{FlatUnit}
 use Rattle.il_units.specs.Expansion.{flat_of, flats_from}
 use Rattle.il_units.specs.Misuse.{fault_of}
-use Rattle.ctl_model.specs.State.{State}
 use Rattle.laws_calls.specs.Machines.{Machine, RunEnd, Comes}
 use Rattle.laws_calls.specs.Lines.{line_step}
 use Rattle.laws_calls.specs.Calls.{call_step, begun}
@@ -78,12 +77,12 @@ abbrev pub expanded_lines : List ℕ → List UnitText → UnitText → List Lin
 expanded_lines text above program = let u = flat_of text (flats_from text [] above) program in u.lines
 
 -- the program run by its calls, and its expansion line by line, come to the same ends from the same states
-abbrev pub DoAlike : Machine State → List ℕ → List UnitText → UnitText → State → RunEnd State → Type 0
+abbrev pub DoAlike : {S : Type 0} → Machine S → List ℕ → List UnitText → UnitText → S → RunEnd S → Type 0
 DoAlike M text above program s end = let ls = expanded_lines text above program in
     (Comes (call_step M text) (begun above program) s end → Comes (line_step M ls) ls s end)
     × (Comes (line_step M ls) ls s end → Comes (call_step M text) (begun above program) s end)
 
--- whatever the machine does at the operators
-abbrev pub ACallIsACall : Type 0
-ACallIsACall = (M : Machine State) (text : List ℕ) (above : List UnitText) (program : UnitText) (s : State)
-    (end : RunEnd State) → AllByRecursion IsPlainUnit (above ++ program ∷ []) → DoAlike M text above program s end
+-- whatever states the machine has, and whatever it does at the operators
+abbrev pub ACallIsACall : Type 0 → Type 0
+ACallIsACall S = (M : Machine S) (text : List ℕ) (above : List UnitText) (program : UnitText) (s : S)
+    (end : RunEnd S) → AllByRecursion IsPlainUnit (above ++ program ∷ []) → DoAlike M text above program s end

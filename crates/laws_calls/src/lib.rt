@@ -5,7 +5,7 @@
 //! builds on these:
 //!
 //! ```rust
-//! laws_calls::a_call_is_a_call();
+//! laws_calls::a_call_is_a_call::<State>();
 //! ```
 //!
 //! `specs/Calls` says what calls do, with no expansion: a call of a block stores the inputs that are given, runs the
@@ -16,8 +16,9 @@
 //!
 //! Proved: the two come to the same ends from the same states, whatever the machine does at the other operators
 //! (`specs/Machines`); and where a program's instructions are the lines of an expansion (`specs/Controller`), the
-//! controller's scan comes to what the calls come to. `proofs/WorkedCalls` has a motor's block called twice, worked
-//! out. Not proved: that the text of an expansion is read as the program whose instructions are its lines.
+//! controller's scan comes to what the calls come to. `proofs/WorkedCalls` has two programs worked out: a motor's block
+//! that is called for two instances, and a meter's with a function, a VAR_IN_OUT and a return. That the program of a
+//! text of units has the lines of its expansion for instructions is `laws_meaning`'s.
 //!
 //! Tests (nothing rests on them alone): `units.rows` of `tests_rows` runs such programs, and `tools/units` holds four
 //! more against an evaluator that calls.
@@ -34,11 +35,10 @@ pub fn a_faultless_unit_is_plain()
 
 /// A call is a call: the program of a text of units, run by its calls, and its expansion, run line by line, come to
 /// the same ends: done with the same values, or stopped for the same reason with the same values, and the one comes to
-/// an end exactly if the other does. It holds of every machine. The labels of the units have no dot and are none of
-/// the words RET and CAL, and each unit has fewer lines than 2^64. The next step is that the text of an expansion is
-/// read as these lines.
-pub fn a_call_is_a_call()
-    ensures { ACallIsACall }
+/// an end exactly if the other does. It holds of every machine, whatever its states are. The labels of the units have
+/// no dot and are none of the words RET and CAL, and each unit has fewer lines than 2^64.
+pub fn a_call_is_a_call<S>()
+    ensures { ACallIsACall S }
 {}
 
 /// A typed program whose instructions are some lines, each read as an instruction in some way that may look at the type

@@ -1,6 +1,7 @@
 -- The listing's declarations are spelled as the grammar has them.
 use Rattle.std.proofs.Common.{◌≡◌, ℕ, Bool, true, false, cond, List, [], ◌∷◌, ◌++◌, Option, Some, None, refl, ap, ◌∙◌, not, append_assoc}
 use Rattle.std.specs.Prelude.{codes}
+use Rattle.il_model.specs.Dialects.{newest}
 use Rattle.il_model.specs.declared.dialect.Dialect.{Dialect}
 use Rattle.il_values.specs.declared.value.Value.{Value}
 use Rattle.il_model.specs.declared.program.Loc.{Loc}
@@ -18,7 +19,7 @@ use Rattle.il_reader.specs.Front.{is_sign, is_word_token, next_is}
 use Rattle.il_reader.specs.Grammar.{is_constant, no_value, ends_names, ends_block, DeclarationText}
 use Rattle.il_reader.specs.Spelling.{Part, breaks, ahead, this, sign, name, word, address, Spell, is_not_at, spelled_names, spelled_initial, spelled_declaration, going}
 use Rattle.il_lister.specs.Listing.{literal_text, location_text, type_name, at_text, initial_text, variable_text, instance_text}
-use Rattle.laws_listing.proofs.Sayable.{newest, IsSayable}
+use Rattle.laws_listing.proofs.Sayable.{IsSayable}
 use Rattle.laws_listing.proofs.NameTexts.{IsWord, word_by, IsFreeName, not_word, type_is, kind_is}
 use Rattle.laws_listing.proofs.Written.{token_at, literal_at, written_names, written_initial, ending, written_variable, written_instance, Declared, OfVariable, OfInstance, retained_of, name_of, text_of, written_declared}
 use Rattle.laws_listing.proofs.Pieces.{is_name_end, name_token, word_token, literal_token, location_token, blank_skips, break_token, colon_token, assign_token, semicolon_token}

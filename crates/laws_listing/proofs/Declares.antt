@@ -4,6 +4,10 @@ use Rattle.std.specs.Prelude.{is_some, ℤ, pos, negsuc, nat_abs, map}
 use Rattle.std.specs.List.{AllByRecursion, flat_map, list_any}
 use Rattle.std.proofs.lemmas.List.{length-append, append-nil}
 use Rattle.std.proofs.lemmas.Bool.{lt-leb, ltb-false}
+use Rattle.il_model.specs.Dialects.{newest}
+use Rattle.il_model.specs.Limits.{most_variables, most_instances, most_instructions}
+use Rattle.il_model.specs.Marks.{words_in}
+use Rattle.il_model.proofs.Sizes.{crowded_less}
 use Rattle.il_model.specs.declared.dialect.Dialect.{Dialect}
 use Rattle.il_model.specs.declared.dialect.Dialect.TheVariants as dialects
 use Rattle.il_real.specs.Reals.{zero_real}
@@ -48,7 +52,7 @@ use Rattle.il_declarations.specs.Walk.{each, nothing, has_name, has_instance, is
 use Rattle.il_reader.specs.declared.contents.Qualifier.TheVariants as qualifiers
 use Rattle.il_lister.specs.Listing.{location_text, type_name, reads_as_qualifier, first_retained, first_name}
 use Rattle.laws_listing.proofs.Fronts.{both_true, not_true}
-use Rattle.laws_listing.proofs.Sayable.{newest, IsSayable, IsSayableProgram}
+use Rattle.laws_listing.proofs.Sayable.{IsSayable, IsSayableProgram}
 use Rattle.laws_listing.proofs.LiteralTexts.{literal_again}
 use Rattle.laws_listing.proofs.LocationTexts.{location_again}
 use Rattle.laws_listing.proofs.NameTexts.{IsFreeName, lawful_free, capital}
@@ -143,8 +147,8 @@ record IsNew (dialect : Dialect) (type : Option DeclaredType) (known : Declarati
   no_instance : has_instance known name ≡ false
   apart : is_shadowed type known name ≡ false
 
-new_back : (dialect : Dialect) (type : Option DeclaredType) (known : Declarations) (name rest : List ℕ) → IsNew dialect type known name → is_full type known ≡ false
-    → new_name type known (token_at signs.Name name rest) ≡ Ok name
+new_back : (dialect : Dialect) (type : Option DeclaredType) (known : Declarations) (name rest : List ℕ) → IsNew dialect type known name → is_full dialect type known ≡ false
+    → new_name dialect type known (token_at signs.Name name rest) ≡ Ok name
 unfolding new_name
 new_back dialect type known name rest is few = rw (capital dialect name is.free.name, is.no_variable, is.no_instance, is.apart, is.free.free, few) refl
 
@@ -234,19 +238,19 @@ first_seen dialect type loc v first = record {
 
 -- ---- variables and instances
 
-located_back : (dialect : Dialect) (retained : Bool) (known : Declarations) (name : List ℕ) (type : Ty) (loc : Loc) (v : Value) (rest : List ℕ) → IsNew dialect (Some (Elementary type)) known name → is_full (Some (Elementary type)) known ≡ false → IsLocated known.variables type loc → may_have (newest dialect) (location_version loc) ≡ true → IsFirst dialect type (Some loc) v
+located_back : (dialect : Dialect) (retained : Bool) (known : Declarations) (name : List ℕ) (type : Ty) (loc : Loc) (v : Value) (rest : List ℕ) → IsNew dialect (Some (Elementary type)) known name → is_full dialect (Some (Elementary type)) known ≡ false → IsLocated known.variables type loc → may_have (newest dialect) (location_version loc) ≡ true → IsFirst dialect type (Some loc) v
     → declare dialect known (in_block retained (written_variable (variable retained name type (Some loc) v) rest)) ≡ Ok (with_variable known (variable retained name type (Some loc) v))
 unfolding declare_located
 located_back dialect retained known name type loc v rest new few at may first =
     rw (type_back dialect type first.known, new_back dialect (Some (Elementary type)) known name _ new few, location_back dialect known type loc _ at may, initial_back dialect type (Some (text_loc loc)) v _ (first_seen dialect type loc v first), seen_again type loc at.suits) refl
 
-listed_back : (dialect : Dialect) (retained : Bool) (known : Declarations) (name : List ℕ) (type : Ty) (v : Value) (rest : List ℕ) → IsNew dialect (Some (Elementary type)) known name → is_full (Some (Elementary type)) known ≡ false → IsFirst dialect type None v
+listed_back : (dialect : Dialect) (retained : Bool) (known : Declarations) (name : List ℕ) (type : Ty) (v : Value) (rest : List ℕ) → IsNew dialect (Some (Elementary type)) known name → is_full dialect (Some (Elementary type)) known ≡ false → IsFirst dialect type None v
     → declare dialect known (in_block retained (written_variable (variable retained name type None v) rest)) ≡ Ok (with_variable known (variable retained name type None v))
 unfolding declare_listed declare_name each
 listed_back dialect retained known name type v rest new few first =
     rw (type_back dialect type first.known, new_back dialect (Some (Elementary type)) known name _ new few, initial_back dialect type None v _ first, planned_back dialect type v _ first) refl
 
-instance_back : (dialect : Dialect) (known : Declarations) (x : Instance) (rest : List ℕ) → IsNew dialect (Some (Block x.kind)) known x.name → is_full (Some (Block x.kind)) known ≡ false → declare dialect known (in_block x.retained (written_instance x rest)) ≡ Ok (with_instance known x)
+instance_back : (dialect : Dialect) (known : Declarations) (x : Instance) (rest : List ℕ) → IsNew dialect (Some (Block x.kind)) known x.name → is_full dialect (Some (Block x.kind)) known ≡ false → declare dialect known (in_block x.retained (written_instance x rest)) ≡ Ok (with_instance known x)
 unfolding declare_listed declare_name each
 instance_back dialect known x rest new few =
     rw (kind_back dialect x.kind, new_back dialect (Some (Block x.kind)) known x.name _ new few) refl
@@ -308,14 +312,14 @@ abbrev written_in_blocks : List Declared → List ℕ → List BlockDeclaration
 written_in_blocks [] rest = []
 written_in_blocks (d ∷ ds) rest = in_block (retained_of d) (written_declared d (declared_text (retained_of d) ds rest)) ∷ written_in_blocks ds rest
 
-variable_by : (dialect : Dialect) (seen : List Variable) (retained : Bool) (name : List ℕ) (type : Ty) (o : Option Loc) (v : Value) (rest : List ℕ) → IsVariable seen (variable retained name type o v) → may_call (newest dialect) name ≡ true → may_have (newest dialect) (type_version type) ≡ true → may_lie (newest dialect) o ≡ true → length seen < 512
+variable_by : (dialect : Dialect) (seen : List Variable) (retained : Bool) (name : List ℕ) (type : Ty) (o : Option Loc) (v : Value) (rest : List ℕ) → IsVariable seen (variable retained name type o v) → may_call (newest dialect) name ≡ true → may_have (newest dialect) (type_version type) ≡ true → may_lie (newest dialect) o ≡ true → length seen < most_variables (newest dialect)
     → declare dialect (known_as seen []) (in_block retained (written_variable (variable retained name type o v) rest)) ≡ Ok (known_as (seen ++ variable retained name type o v ∷ []) [])
 variable_by dialect seen retained name type None v rest is called known lies few =
-    listed_back dialect retained (known_as seen []) name type v rest (new_variable dialect seen (variable retained name type None v) is called) (lt-leb 512 (length seen) few) (first_is dialect type None v is.initial known)
+    listed_back dialect retained (known_as seen []) name type v rest (new_variable dialect seen (variable retained name type None v) is called) (lt-leb (most_variables (newest dialect)) (length seen) few) (first_is dialect type None v is.initial known)
 variable_by dialect seen retained name type (Some loc) v rest is called known lies few =
-    located_back dialect retained (known_as seen []) name type loc v rest (new_variable dialect seen (variable retained name type (Some loc) v) is called) (lt-leb 512 (length seen) few) (located_is seen type loc is.location) lies (first_is dialect type (Some loc) v is.initial known)
+    located_back dialect retained (known_as seen []) name type loc v rest (new_variable dialect seen (variable retained name type (Some loc) v) is called) (lt-leb (most_variables (newest dialect)) (length seen) few) (located_is seen type loc is.location) lies (first_is dialect type (Some loc) v is.initial known)
 
-variables_back : (dialect : Dialect) (seen vs : List Variable) (xs : List Instance) (rest : List ℕ) → AreItems IsVariable seen vs → AllByRecursion (λ (v : Variable). may_declare (newest dialect) v ≡ true) vs → length seen + length vs ≤ 512
+variables_back : (dialect : Dialect) (seen vs : List Variable) (xs : List Instance) (rest : List ℕ) → AreItems IsVariable seen vs → AllByRecursion (λ (v : Variable). may_declare (newest dialect) v ≡ true) vs → length seen + length vs ≤ most_variables (newest dialect)
     → each (declare dialect) (known_as seen []) (written_in_blocks (all_declared vs xs) rest) ≡ each (declare dialect) (known_as (seen ++ vs) []) (written_in_blocks (of_instances xs) rest)
 unfolding each
 variables_back dialect seen [] xs rest all known few = rw (append-nil seen) refl
@@ -329,11 +333,11 @@ new_instance dialect vs seen x is may =
     let a = instance_apart vs seen x is in
     record { free = lawful_free dialect x.name a.lawful (instance_name dialect x may); no_variable = a.no_variable; no_instance = a.no_instance; apart = a.apart }
 
-instances_back : (dialect : Dialect) (vs : List Variable) (seen xs : List Instance) (rest : List ℕ) → AreItems (IsInstance vs) seen xs → AllByRecursion (λ (x : Instance). may_instantiate (newest dialect) x ≡ true) xs → length seen + length xs ≤ 128 → each (declare dialect) (known_as vs seen) (written_in_blocks (of_instances xs) rest) ≡ Ok (known_as vs (seen ++ xs))
+instances_back : (dialect : Dialect) (vs : List Variable) (seen xs : List Instance) (rest : List ℕ) → AreItems (IsInstance vs) seen xs → AllByRecursion (λ (x : Instance). may_instantiate (newest dialect) x ≡ true) xs → length seen + length xs ≤ most_instances (newest dialect) → each (declare dialect) (known_as vs seen) (written_in_blocks (of_instances xs) rest) ≡ Ok (known_as vs (seen ++ xs))
 unfolding each
 instances_back dialect vs seen [] rest all may few = rw (append-nil seen) refl
 instances_back dialect vs seen (x ∷ xs) rest all may few =
-    rw (instance_back dialect (known_as vs seen) x (declared_text x.retained (of_instances xs) rest) (new_instance dialect vs seen x all.0 may.0) (lt-leb 128 (length seen) (omega (arith, few))))
+    rw (instance_back dialect (known_as vs seen) x (declared_text x.retained (of_instances xs) rest) (new_instance dialect vs seen x all.0 may.0) (lt-leb (most_instances (newest dialect)) (length seen) (omega (arith, few))))
     (instances_back dialect vs (seen ++ x ∷ []) xs rest all.1 may.1 (omega (arith, few, length-append seen (x ∷ []))) ∙ rw (append_assoc seen (x ∷ []) xs) refl)
 
 -- ---- by blocks
@@ -394,8 +398,9 @@ blocks_said dialect Q is =
 blocks_back : (dialect : Dialect) (Q : Program) → IsSayableProgram dialect Q → each (declare_block dialect) nothing (written_blocks dialect Q) ≡ Ok (declared_by Q)
 blocks_back dialect Q is =
     let text = is.image.text in
-    let first = variables_back dialect [] Q.variables Q.instances (end_text Q) text.variables is.variables (let few = text.variables_few in omega (arith, few)) in
-    let second = instances_back dialect Q.variables [] Q.instances (end_text Q) text.instances is.instances (let few = text.instances_few in omega (arith, few)) in
+    let within = is.within in
+    let first = variables_back dialect [] Q.variables Q.instances (end_text Q) text.variables is.variables (let few = within.variables in omega (arith, few)) in
+    let second = instances_back dialect Q.variables [] Q.instances (end_text Q) text.instances is.instances (let few = within.instances in omega (arith, few)) in
     each_flat (declare dialect) declarations_in nothing (written_blocks dialect Q)
     ∙ ap (each (declare dialect) nothing) (blocks_said dialect Q is)
     ∙ first ∙ second
@@ -404,7 +409,10 @@ program_back : (dialect : Dialect) (Q : Program) → IsSayableProgram dialect Q 
 unfolding program_at
 program_back dialect Q is =
     let lines = listable dialect Q is in
-    rw (blocks_back dialect Q is, lines_back dialect (declared_by Q) [] Q.code lines.lines (let few = is.image.short in omega (arith, few))) refl
+    let within = is.within in
+    let few : 0 + length Q.code ≤ most_instructions (newest dialect) = (let few = within.code in omega (arith, few)) in
+    let uncrowded = crowded_less (length Q.code) (0 + length Q.code) (words_in Q.code) (0 + words_in Q.code) (omega arith) (omega arith) within.words in
+    rw (blocks_back dialect Q is, lines_back dialect (declared_by Q) [] Q.code lines.lines few uncrowded) refl
 
 -- whatever the text is that says so in that dialect
 pub resolves : (dialect : Dialect) (Q : Program) (text : List ℕ) → dialect_of text ≡ dialect → IsSayableProgram dialect Q → resolution_of (record { text = text; says = written dialect Q }) ≡ Ok Q

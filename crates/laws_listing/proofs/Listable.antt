@@ -4,6 +4,7 @@ use Rattle.std.specs.Prelude.{is_some, slice_get, nat_eq, ◌^◌, ℤ, pos, neg
 use Rattle.std.specs.List.{AllByRecursion, list_all, position}
 use Rattle.std.specs.Option.{option_map, option_and_then}
 use Rattle.std.proofs.lemmas.Slice.Eq.{bytes_eq-Decides}
+use Rattle.il_model.specs.Dialects.{newest}
 use Rattle.il_model.specs.declared.dialect.Dialect.{Dialect}
 use Rattle.il_values.specs.declared.value.Ty.{Ty}
 use Rattle.il_values.specs.declared.value.Ty.TheVariants as types
@@ -48,7 +49,7 @@ use Rattle.laws_listing.proofs.Fronts.{both_true, not_true}
 use Rattle.il_model.proofs.LiteralLaws.{IsValue}
 use Rattle.il_values.proofs.BitValues.{bits_are, bits_again}
 use Rattle.il_values.proofs.RealValues.{real_is, real_again}
-use Rattle.laws_listing.proofs.Sayable.{newest, IsSayable, IsSayablePlace, IsSayableProgram}
+use Rattle.laws_listing.proofs.Sayable.{IsSayable, IsSayablePlace, IsSayableProgram}
 use Rattle.laws_listing.proofs.NameRuns.{both_false, is_under}
 use Rattle.laws_listing.proofs.NameTexts.{IsFreeName, IsFieldName, IsLawful, lawful_free, field_is}
 

@@ -17,7 +17,7 @@ use Rattle.il_model.specs.Literals.{integer_of, is_digit_byte, digits_len, behin
 use Rattle.il_model.specs.Literals.{parts_by, duration_by, is_no_hash, hash_at, positive, minus, signed_by, whole_by}
 use Rattle.il_model.specs.Literals.{time_by, typed_literal, literal_of, typed_real, extended_literal_of}
 use Rattle.il_model.specs.Image.{may_keep}
-use Rattle.il_model.specs.Dialects.{literal_in}
+use Rattle.il_model.specs.Dialects.{literal_in, newest}
 use Rattle.il_real.specs.Literals.{real_literal}
 use Rattle.il_real.specs.Texts.{real_text}
 use Rattle.il_real.proofs.Texts.{reads_back}
@@ -27,7 +27,7 @@ use Rattle.il_values.proofs.BitValues.{bits_small}
 use Rattle.laws_listing.proofs.BitTexts.{word_whole, double_word_whole}
 use Rattle.il_lister.specs.Listing.{decimal, number_text, literal_text}
 use Rattle.laws_listing.proofs.Fronts.{both_true, prefix_whole, all_weaker}
-use Rattle.laws_listing.proofs.Sayable.{newest, IsSayable}
+use Rattle.laws_listing.proofs.Sayable.{IsSayable}
 use Rattle.laws_listing.proofs.Numerals.{is_digit, IsNumeral, numeral}
 
 digit_between : (b : ℕ) → is_digit b ≡ true → (48 ≤ b) × (b ≤ 57)

@@ -14,7 +14,7 @@ use Rattle.il_model.specs.declared.dialect.Dialect.TheVariants as dialects
 use Rattle.il_model.specs.declared.codes.Version.TheVariants as versions
 use Rattle.il_model.specs.Literals.{are_digits, integer_of}
 use Rattle.il_model.specs.Locations.{begins_double, is_no_dot, dot_at, bit_of, bit_at, word_at, double_at, location_of, or_double, extended_location_of}
-use Rattle.il_model.specs.Dialects.{location_in}
+use Rattle.il_model.specs.Dialects.{location_in, newest}
 use Rattle.il_model.specs.Image.{location_version, may_have}
 use Rattle.il_model.specs.CodedOperands.{IsCell}
 use Rattle.il_lister.specs.Listing.{decimal, location_text}
@@ -22,7 +22,6 @@ use Rattle.il_model.proofs.WrittenLocations.{text_loc}
 use Rattle.laws_listing.proofs.Fronts.{prefix_whole, all_weaker}
 use Rattle.laws_listing.proofs.Numerals.{is_digit, IsNumeral, numeral}
 use Rattle.laws_listing.proofs.LiteralTexts.{digit_is_not}
-use Rattle.laws_listing.proofs.Sayable.{newest}
 
 no_dot_digit : (b : ℕ) → is_digit b ≡ true → is_no_dot b ≡ true
 no_dot_digit b is = rw (digit_is_not 46 b (λ low high. omega arith) is) refl

@@ -5,6 +5,7 @@ use Rattle.std.specs.List.{list_all, list_any}
 use Rattle.std.specs.Str.{bytes_eq}
 use Rattle.std.proofs.lemmas.Bool.{leb-true, lt-leb, eqb-true}
 use Rattle.std.proofs.lemmas.Slice.Eq.{bytes_eq-Decides}
+use Rattle.il_model.specs.Dialects.{newest}
 use Rattle.il_model.specs.declared.dialect.Dialect.{Dialect}
 use Rattle.il_model.specs.declared.dialect.Dialect.TheVariants as dialects
 use Rattle.il_model.specs.declared.codes.Version.{Version}
@@ -26,7 +27,6 @@ use Rattle.il_model.specs.Codes.{longest_name, length_in}
 use Rattle.il_model.proofs.NameLengths.{length_kept}
 use Rattle.il_declarations.specs.Resolution.{capitals}
 use Rattle.il_lister.specs.Listing.{type_name}
-use Rattle.laws_listing.proofs.Sayable.{newest}
 use Rattle.laws_listing.proofs.Fronts.{begins, both_true, not_true}
 use Rattle.laws_listing.proofs.NameRuns.{both_so, both_false, part_says, no_dots, dotless, under_parts, all_and_last, dot_under, is_run, parts_run, run_byte}
 

@@ -14,12 +14,11 @@ use Rattle.il_model.specs.declared.words.Mnemonic.{Mnemonic}
 use Rattle.il_model.specs.Words.{is_well_spelled, look, mnemonic_of, extended_mnemonic_of}
 use Rattle.il_values.specs.Spelled.{spells}
 use Rattle.il_values.specs.Functions.{look_function, function_named}
-use Rattle.il_model.specs.Dialects.{or_extended, operator_in}
+use Rattle.il_model.specs.Dialects.{or_extended, operator_in, newest}
 use Rattle.il_model.specs.Image.{op_version, may_have}
 use Rattle.il_model.specs.Codes.{usage_of, allowed_by}
 use Rattle.il_declarations.specs.Resolution.{with_opening}
 use Rattle.il_lister.specs.Listing.{op_name, letter}
-use Rattle.laws_listing.proofs.Sayable.{newest}
 use Rattle.laws_listing.proofs.NameTexts.{IsWord, word_by}
 
 -- the word of an operator with its letters, but for the parenthesis

@@ -4,6 +4,7 @@ use Rattle.std.specs.Prelude.{codes, ℤ, pos, negsuc, nat_lt, ◌/◌, ◌%◌}
 use Rattle.std.specs.List.{list_all, list_any, prefix_len}
 use Rattle.std.proofs.Math.Seq.{take-append_seam, drop-append_seam}
 use Rattle.std.proofs.lemmas.Bool.{eqb-true, le-ltb}
+use Rattle.il_model.specs.Dialects.{newest}
 use Rattle.il_model.specs.declared.dialect.Dialect.{Dialect}
 use Rattle.il_model.specs.declared.dialect.Dialect.TheVariants as dialects
 use Rattle.il_model.specs.declared.codes.Version.TheVariants as versions
@@ -26,7 +27,7 @@ use Rattle.il_values.specs.BitStrings.{hex_word, hex_double}
 use Rattle.laws_listing.proofs.BitTexts.{word_bytes, double_word_bytes}
 use Rattle.laws_listing.proofs.Fronts.{begins, both_true, not_true, prefix_whole, all_weaker, all_both}
 use Rattle.laws_listing.proofs.Numerals.{is_digit, numeral}
-use Rattle.laws_listing.proofs.Sayable.{newest, IsSayable}
+use Rattle.laws_listing.proofs.Sayable.{IsSayable}
 use Rattle.laws_listing.proofs.RealTexts.{literal_digit, real_so}
 use Rattle.laws_listing.proofs.LiteralTexts.{literal_again}
 use Rattle.laws_listing.proofs.NameRuns.{both_so, first_so, second_so, is_run, parts_begin, parts_run, run_byte, plain_run, well_spelled, none_long}

@@ -1,9 +1,10 @@
 -- The listing's names, literals, locations and operators are resolved to the program's own.
-use Rattle.std.proofs.Common.{◌≡◌, ℕ, ◌+◌, ◌<◌, ◌≤◌, Bool, true, false, eqb, List, [], ◌∷◌, ◌++◌, length, Option, Some, None, Result, Ok, refl, sym, ap, ◌∙◌, arith, ◌||◌, not, append_assoc}
+use Rattle.std.proofs.Common.{◌≡◌, ℕ, suc, ◌+◌, ◌≤◌, Bool, true, false, cond, ltb, eqb, List, [], ◌∷◌, ◌++◌, length, Option, Some, None, Result, Ok, Err, refl, sym, ap, ◌∙◌, arith, ◌||◌, not, append_assoc}
 use Rattle.std.specs.Prelude.{nat_eq}
 use Rattle.std.specs.List.{AllByRecursion, flat_map}
 use Rattle.std.proofs.lemmas.List.{length-append, append-nil}
-use Rattle.std.proofs.lemmas.Bool.{lt-leb, eqb-true}
+use Rattle.std.proofs.lemmas.Bool.{le-ltb, eqb-true}
+use Rattle.il_model.specs.Dialects.{newest}
 use Rattle.il_model.specs.declared.dialect.Dialect.{Dialect}
 use Rattle.il_model.specs.declared.dialect.Dialect.TheVariants as dialects
 use Rattle.il_values.specs.declared.op.Op.{Op}
@@ -15,11 +16,18 @@ use Rattle.il_model.specs.declared.program.Operand.TheVariants as operands
 use Rattle.il_model.specs.declared.program.Instr.{Instr}
 use Rattle.il_model.specs.Program.{Declarations}
 use Rattle.il_model.specs.Words.{under}
+use Rattle.il_model.specs.Limits.{most_instructions, is_crowded}
+use Rattle.il_model.specs.Marks.{word_count, words_in}
+use Rattle.il_model.proofs.Marks.{words_in-append}
+use Rattle.il_model.proofs.Sizes.{crowded_less}
 use Rattle.il_model.specs.Codes.{usage_of, allowed_by, formed_by, is_call, is_empty}
 use Rattle.il_reader.specs.declared.lexeme.Sign.TheVariants as signs
 use Rattle.il_reader.specs.Grammar.{Field, BehindText}
 use Rattle.il_declarations.specs.declared.fault.FaultAt.{FaultAt}
-use Rattle.il_declarations.specs.Resolution.{opens, plain}
+use Rattle.il_declarations.specs.declared.fault.DeclKind.TheVariants as kinds
+use Rattle.il_declarations.specs.Resolution.{opens, plain, are_too_many}
+use Rattle.il_declarations.specs.Declaring.{operation_words}
+use Rattle.il_declarations.proofs.Fits.{instruction_words}
 use Rattle.il_declarations.specs.Walk.{each, operand_of, behind_of, behind_arguments, argument_of, pushed_argument, instruction_of, room, label_of, instruct_labelled, instruct_plain, instruct}
 use Rattle.il_lister.specs.Listing.{next_argument_text, operation_text, line_text}
 use Rattle.laws_listing.proofs.Fronts.{both_true}
@@ -186,8 +194,23 @@ empty_line label ops.Empty false false false operands.Absent args w a f k = ap (
 empty_line label ops.Empty n c b o args w a f k = absurd cc
 empty_line label op n c b o args w a f k = absurd cc
 
-room_back : (code : List Instr) (left : ℕ) → length code < 4096 → room code left ≡ Ok tt
-room_back code left lt = rw (lt-leb 4096 (length code) lt) refl
+passes : (b : Bool) (f : FaultAt) → b ≡ false → (let r : Result (Unit {0}) FaultAt = cond b (Err f) (Ok tt) in r ≡ Ok tt)
+passes true f e = absurd cc
+passes false f e = refl
+
+neither : (a b : Bool) → a ≡ false → b ≡ false → (a || b) ≡ false
+neither true b e f = absurd cc
+neither false b e f = f
+
+-- there is room for a line
+abbrev HasRoom : Dialect → List Instr → Instr → Type 0
+HasRoom dialect code line = (words left : ℕ) → word_count line ≡ words → room dialect code words left ≡ Ok tt
+
+room_back : (dialect : Dialect) (code : List Instr) (line : Instr) → suc (length code) ≤ most_instructions (newest dialect) → is_crowded (suc (length code)) (words_in code + word_count line) ≡ false → HasRoom dialect code line
+room_back dialect code line le fits = λ words left is.
+    let n : ℕ = suc (length code) in
+    passes (are_too_many dialect n (words_in code + words)) (record { kind = kinds.TooMany; left = left })
+    (neither (ltb (most_instructions (newest dialect)) n) (is_crowded n (words_in code + words)) (le-ltb (most_instructions (newest dialect)) n le) (ap (λ (k : ℕ). is_crowded n (words_in code + k)) (sym is) ∙ fits))
 
 label_back : (dialect : Dialect) (name rest : List ℕ) → IsFreeName dialect name → label_of (token_at signs.Name name rest) ≡ Ok name
 label_back dialect name rest is = rw (capital dialect name is.name, is.free) refl
@@ -201,18 +224,30 @@ optional_back dialect ds name line rest true e is =
     ap (λ (l : Instr). let r : Result Instr FaultAt = Ok l in r) (empty_line (Some name) line.op line.modifier.negated line.modifier.conditional line.modifier.opens line.operand line.arguments e is.letters is.form is.called)
 optional_back dialect ds name line rest false e is = instruction_back dialect ds (Some name) line rest is
 
-line_by : (dialect : Dialect) (ds : Declarations) (code : List Instr) (label : Option (List ℕ)) (line : Instr) (rest : List ℕ) → line.label ≡ label → IsListedLabel dialect label → IsListedLine dialect ds line → length code < 4096
+line_by : (dialect : Dialect) (ds : Declarations) (code : List Instr) (label : Option (List ℕ)) (line : Instr) (rest : List ℕ) → line.label ≡ label → IsListedLabel dialect label → IsListedLine dialect ds line → HasRoom dialect code line
     → instruct dialect ds code (labelled_line dialect label line rest) ≡ pushed code line
 unfolding instruct_plain instruct_labelled
-line_by dialect ds code None line rest e free is lt =
-    rw (room_back code (written_operation dialect line rest).operator.left lt, instruction_back dialect ds None line rest is) (ap (λ (l : Option (List ℕ)). pushed code (record line { label = l })) (sym e))
-line_by dialect ds code (Some name) line rest e free is lt =
+line_by dialect ds code None line rest e free is room =
+    let o = written_operation dialect line rest in
+    let back = instruction_back dialect ds None line rest is in
+    rw (room (operation_words (Some o)) o.operator.left (instruction_words dialect ds None (Some o) (record line { label = None }) back), back) (ap (λ (l : Option (List ℕ)). pushed code (record line { label = l })) (sym e))
+line_by dialect ds code (Some name) line rest e free is room =
     let behind = colon_text (is_empty line.op) ++ (operation_text line ++ rest) in
-    rw (label_back dialect name behind free, room_back code (token_at signs.Name name behind).left lt, optional_back dialect ds name line rest (is_empty line.op) refl is) (ap (λ (l : Option (List ℕ)). pushed code (record line { label = l })) (sym e))
+    let o = unless_empty (is_empty line.op) (written_operation dialect line rest) in
+    let back = optional_back dialect ds name line rest (is_empty line.op) refl is in
+    rw (label_back dialect name behind free, room (operation_words o) (token_at signs.Name name behind).left (instruction_words dialect ds (Some name) o (record line { label = Some name }) back), back) (ap (λ (l : Option (List ℕ)). pushed code (record line { label = l })) (sym e))
 
-pub lines_back : (dialect : Dialect) (ds : Declarations) (seen code : List Instr) → AllByRecursion (IsListedLine dialect ds) code → length seen + length code ≤ 4096 → each (instruct dialect ds) seen (written_lines dialect code) ≡ Ok (seen ++ code)
+pub lines_back : (dialect : Dialect) (ds : Declarations) (seen code : List Instr) → AllByRecursion (IsListedLine dialect ds) code → length seen + length code ≤ most_instructions (newest dialect) → is_crowded (length seen + length code) (words_in seen + words_in code) ≡ false
+    → each (instruct dialect ds) seen (written_lines dialect code) ≡ Ok (seen ++ code)
 unfolding each
-lines_back dialect ds seen [] all few = rw (append-nil seen) refl
-lines_back dialect ds seen (line ∷ code) all few =
-    rw (line_by dialect ds seen line.label line (10 ∷ flat_map line_text code) refl all.0.label all.0 (omega (arith, few)))
-    (lines_back dialect ds (seen ++ line ∷ []) code all.1 (omega (arith, few, length-append seen (line ∷ []))) ∙ rw (append_assoc seen (line ∷ []) code) refl)
+lines_back dialect ds seen [] all few fits = rw (append-nil seen) refl
+lines_back dialect ds seen (line ∷ code) all few fits =
+    let n : ℕ = length seen + length (line ∷ code) in
+    let words : ℕ = words_in seen + words_in (line ∷ code) in
+    let next : List Instr = seen ++ line ∷ [] in
+    let count : n ≡ length next + length code = omega (arith, length-append seen (line ∷ [])) in
+    let sum : words ≡ words_in next + words_in code = omega (arith, words_in-append seen (line ∷ [])) in
+    let here = crowded_less n (suc (length seen)) words (words_in seen + word_count line) (omega arith) (omega arith) fits in
+    let rest : is_crowded (length next + length code) (words_in next + words_in code) ≡ false = ap (λ (k : ℕ). is_crowded k (words_in next + words_in code)) (sym count) ∙ ap (is_crowded n) (sym sum) ∙ fits in
+    rw (line_by dialect ds seen line.label line (10 ∷ flat_map line_text code) refl all.0.label all.0 (room_back dialect seen line (omega (arith, few)) here))
+    (lines_back dialect ds next code all.1 (omega (arith, few, count)) rest ∙ rw (append_assoc seen (line ∷ []) code) refl)

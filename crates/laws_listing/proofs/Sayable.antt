@@ -2,6 +2,7 @@
 use Rattle.std.proofs.Common.{◌≡◌, ℕ, Bool, true, List, [], ◌∷◌, Option, Some, None, refl, ◌&&◌}
 use Rattle.std.specs.List.{list_all, AllByRecursion}
 use Rattle.il_model.specs.declared.dialect.Dialect.{Dialect}
+use Rattle.il_model.specs.Dialects.{newest}
 use Rattle.il_model.specs.declared.dialect.Dialect.TheVariants as dialects
 use Rattle.il_model.specs.declared.codes.Version.{Version}
 use Rattle.il_model.specs.declared.codes.Version.TheVariants as versions
@@ -18,7 +19,8 @@ use Rattle.il_model.specs.declared.program.Loc.{Loc}
 use Rattle.il_model.specs.Locations.{is_nameable}
 use Rattle.il_model.specs.CodedOperands.{IsCell}
 use Rattle.il_model.proofs.LiteralLaws.{IsValue}
-use Rattle.il_model.proofs.Versions.{version_may}
+use Rattle.il_model.proofs.Versions.{version_may, version_within}
+use Rattle.il_model.proofs.Sizes.{IsWithin}
 use Rattle.laws_listing.proofs.Fronts.{both_true}
 
 -- the dialect of the listing of a program of a version
@@ -26,11 +28,6 @@ abbrev pub dialect_for : Version → Dialect
 dialect_for versions.One = dialects.Plain
 dialect_for versions.Two = dialects.Plain
 dialect_for versions.Three = dialects.Extended
-
--- the last version with that dialect
-abbrev pub newest : Dialect → Version
-newest dialects.Plain = versions.Two
-newest dialects.Extended = versions.Three
 
 -- a value of its type's range, of a type that the dialect has
 pub record IsSayable (dialect : Dialect) (v : Value) : Type 0 where
@@ -48,6 +45,7 @@ pub record IsSayableProgram (dialect : Dialect) (Q : Program) : Type 0 where
   pub instances : AllByRecursion (λ (x : Instance). may_instantiate (newest dialect) x ≡ true) Q.instances
   pub constants : AllByRecursion (λ (v : Value). may_keep (newest dialect) v ≡ true) (constants_of Q)
   pub code : AllByRecursion (λ (line : Instr). may_write (newest dialect) line ≡ true) Q.code
+  pub within : IsWithin (newest dialect) Q.variables Q.instances Q.code
 
 -- ---- the listing of a program is such a text
 
@@ -95,6 +93,12 @@ all_more p q more (x ∷ xs) all =
     let h = both_true (p x) (list_all p xs) all in
     (more x h.0, all_more p q more xs h.1)
 
+-- the dialect has room for as much
+as_within : (version : Version) (vs : List Variable) (xs : List Instance) (code : List Instr) → IsWithin version vs xs code → IsWithin (newest (dialect_for version)) vs xs code
+as_within versions.One vs xs code is = record { variables = is.variables; instances = is.instances; code = is.code; words = is.words }
+as_within versions.Two vs xs code is = is
+as_within versions.Three vs xs code is = is
+
 pub sayable : (Q : Program) → IsImage Q → IsSayableProgram (dialect_for (version_of Q)) Q
 sayable Q is =
     let version = version_of Q in
@@ -106,4 +110,5 @@ sayable Q is =
       instances = all_more (may_instantiate version) (may_instantiate last) (more_instantiated version) Q.instances may.1;
       constants = all_more (may_keep version) (may_keep last) (λ v. more_had version (value_version v)) (constants_of Q) may.2;
       code = all_more (may_write version) (may_write last) (more_written version) Q.code may.3;
+      within = as_within version Q.variables Q.instances Q.code (version_within Q is);
     }

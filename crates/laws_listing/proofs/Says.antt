@@ -2,6 +2,7 @@
 use Rattle.std.proofs.Common.{◌≡◌, ℕ, Bool, true, false, List, [], ◌∷◌, ◌++◌, Option, refl, sym, ap, ◌∙◌, subst, append_assoc}
 use Rattle.std.specs.Prelude.{codes}
 use Rattle.std.specs.List.{AllByRecursion, flat_map}
+use Rattle.il_model.specs.Dialects.{newest}
 use Rattle.il_model.specs.declared.dialect.Dialect.{Dialect}
 use Rattle.il_model.specs.declared.dialect.Dialect.TheVariants as dialects
 use Rattle.il_model.specs.declared.codes.Version.{Version}
@@ -20,7 +21,7 @@ use Rattle.il_reader.specs.Grammar.{block_word, ends_blocks, ends_lines, begins_
 use Rattle.il_reader.specs.Spelling.{breaks, ahead, Spell, Says, is_bare, listed, spelled_block, spelled_line, spelled_bare}
 use Rattle.il_reader.proofs.Laws.{Spell-append}
 use Rattle.il_lister.specs.Listing.{variable_text, instance_text, line_text, turn_text, variables_text, instances_text, last_retained, first_retained, first_name, opening, listing}
-use Rattle.laws_listing.proofs.Sayable.{newest, dialect_for, IsSayableProgram, sayable}
+use Rattle.laws_listing.proofs.Sayable.{dialect_for, IsSayableProgram, sayable}
 use Rattle.laws_listing.proofs.Fronts.{both_true}
 use Rattle.laws_listing.proofs.NameTexts.{IsFreeName}
 use Rattle.laws_listing.proofs.Listable.{listable}

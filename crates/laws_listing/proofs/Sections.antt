@@ -2,6 +2,7 @@
 use Rattle.std.proofs.Common.{◌≡◌, ℕ, Bool, true, false, cond, List, [], ◌∷◌, ◌++◌, Option, Some, None, refl, sym, ap, ◌∙◌, subst, not, append_assoc}
 use Rattle.std.specs.Prelude.{codes}
 use Rattle.std.specs.List.{AllByRecursion, flat_map}
+use Rattle.il_model.specs.Dialects.{newest}
 use Rattle.il_model.specs.declared.dialect.Dialect.{Dialect}
 use Rattle.il_model.specs.declared.dialect.Dialect.TheVariants as dialects
 use Rattle.il_model.specs.Words.{is_well_spelled}
@@ -16,7 +17,6 @@ use Rattle.il_reader.specs.Grammar.{DeclarationText, BlockText, ends_block, bloc
 use Rattle.il_reader.specs.Spelling.{Part, breaks, ahead, sign, word, name, Spell, spelled_names, spelled_initial, spelled_declaration, spelled_qualifier, spelled_block, going, listed}
 use Rattle.il_reader.proofs.Laws.{Spell-append}
 use Rattle.il_lister.specs.Listing as listing
-use Rattle.laws_listing.proofs.Sayable.{newest}
 use Rattle.laws_listing.proofs.NameTexts.{IsWord, word_by}
 use Rattle.laws_listing.proofs.Written.{token_at, Declared, retained_of, name_of, text_of, written_declared, both_alike, declared_text, written_qualifier, written_open, written_sections}
 use Rattle.laws_listing.proofs.Pieces.{is_name_end, word_token, blank_skips, break_token}

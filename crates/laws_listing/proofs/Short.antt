@@ -4,6 +4,7 @@ use Rattle.std.specs.Prelude.{codes, ℤ, pos, negsuc}
 use Rattle.std.specs.List.{AllByRecursion, flat_map}
 use Rattle.std.proofs.lemmas.List.{length-append}
 use Rattle.std.proofs.lemmas.Bool.{ltb-true}
+use Rattle.il_model.specs.Dialects.{newest}
 use Rattle.il_model.specs.declared.dialect.Dialect.{Dialect}
 use Rattle.il_model.specs.declared.dialect.Dialect.TheVariants as dialects
 use Rattle.il_model.specs.declared.codes.Version.{Version}
@@ -13,6 +14,7 @@ use Rattle.il_values.specs.declared.shift.Shift.{Shift}
 use Rattle.il_values.specs.declared.shift.Shift.TheVariants as shifts
 use Rattle.il_values.specs.declared.function.Function.TheVariants as functions
 use Rattle.il_model.specs.Image.{version_of}
+use Rattle.il_model.specs.Limits.{most_variables, most_instances, most_instructions}
 use Rattle.il_values.specs.declared.value.Ty.{Ty}
 use Rattle.il_values.specs.declared.value.Ty.TheVariants as types
 use Rattle.il_values.specs.declared.value.Value.{Value}
@@ -44,7 +46,7 @@ use Rattle.il_model.specs.CodedOperands.{IsCell}
 use Rattle.il_model.specs.Codes.{longest_name, is_empty}
 use Rattle.il_reader.specs.Texts.{text_limit}
 use Rattle.il_lister.specs.Listing.{decimal, number_text, literal_text, area_letter, location_text, type_name, shift_name, at_text, initial_text, variable_text, instance_text, function_name, op_name, letter, operator_text, operand_text, behind_text, side_text, argument_text, next_argument_text, arguments_text, label_text, line_text, reads_as_qualifier, qualifier_text, section_text, turn_text, variables_text, instances_text, first_retained, first_name, last_retained, opening, listing}
-use Rattle.laws_listing.proofs.Sayable.{newest, dialect_for, sayable}
+use Rattle.laws_listing.proofs.Sayable.{dialect_for, sayable}
 use Rattle.laws_listing.proofs.Numerals.{decimal_length}
 use Rattle.laws_listing.proofs.RealTexts.{real_so}
 use Rattle.il_model.proofs.LiteralLaws.{IsValue}
@@ -365,7 +367,7 @@ opening_most versions.Two retained w = record { le = omega arith }
 opening_most versions.Three retained w = section_most retained w
 
 -- what that comes to, by the names of a dialect
-limit_holds : (dialect : Dialect) (n vs xs words lines : ℕ) → vs ≤ 512 → xs ≤ 128 → words ≤ 36864 → lines ≤ 4096
+limit_holds : (dialect : Dialect) (n vs xs words lines : ℕ) → vs ≤ most_variables (newest dialect) → xs ≤ most_instances (newest dialect) → words ≤ 36864 → lines ≤ most_instructions (newest dialect)
     → n ≤ 22 + ((longest dialect + 91) * vs + ((longest dialect + 41) * xs + (8 + ((longest dialect + 14) * words + (longest dialect + 11) * lines)))) → n ≤ text_limit dialect
 limit_holds dialects.Plain n vs xs words lines a b c d h = omega arith
 limit_holds dialects.Extended n vs xs words lines a b c d h = omega arith
@@ -380,4 +382,4 @@ listing_short Q is =
     let xs = instances_most dialect (last_retained first Q.variables) Q.instances all.names.instances in
     let code = lines_most dialect (declared_by Q) Q.code all.lines in
     let h = join (opening_most (version_of Q) first (first_name Q.variables Q.instances)) (join vs (join xs (join (fixed (codes "END_VAR\n")) code))) in
-    limit_holds dialect (length (listing Q)) (length Q.variables) (length Q.instances) (words_in Q.code) (length Q.code) is.text.variables_few is.text.instances_few is.text.words_few is.short h.le
+    limit_holds dialect (length (listing Q)) (length Q.variables) (length Q.instances) (words_in Q.code) (length Q.code) said.within.variables said.within.instances is.text.words_few said.within.code h.le

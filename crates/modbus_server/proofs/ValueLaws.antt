@@ -18,9 +18,8 @@ use Rattle.modbus_wire.specs.Functions.{function_of, is_lawful, quantity_of}
 use Rattle.modbus_wire.specs.Packing.{bits_of_bytes, bytes_of_words, words_of_bytes}
 use Rattle.modbus_wire.specs.Requests.{function_by, is_request, request_bytes, value_of, shaped, HasRanges, AreReadBack}
 use Rattle.modbus_wire.specs.Replies.{data_reply, reply_bytes}
-use Rattle.modbus_server.specs.declared.request.Asked.{Asked}
-use Rattle.modbus_server.specs.Requests.{area_length, writes_within, judged, request_of}
-use Rattle.modbus_server.specs.Replies.{Outcome, read_outcome, outcome_by, outcome_of, write_outcome, modbus_reply}
+use Rattle.modbus_replies.specs.Requests.{area_length, writes_within, judged, request_of}
+use Rattle.modbus_replies.specs.Replies.{Outcome, read_outcome, outcome_by, outcome_of, write_outcome, modbus_reply}
 use Rattle.modbus_server.specs.Values.{are_there, change_by, shown_by, settled, served, AreServed}
 
 -- what was read as a request passed its test
@@ -51,10 +50,9 @@ judged_is : (f : Function) (pdu : List ℕ) (at count : ℕ) (w : Bool) → is_l
 judged_is f pdu at count w l a q e = rw (l, a, q, e) refl
 
 -- both ways of a judgement
-either : (b : Bool) (pdu : List ℕ) (staged released : Cells) (refused : Bool) (a : Asked) (x y : Outcome) → outcome_of pdu staged released refused (Err IllegalDataAddress) ≡ x → outcome_of pdu staged released refused (Ok a) ≡ y
-    → outcome_of pdu staged released refused (if not b then Err IllegalDataAddress else Ok a) ≡ (if not b then x else y)
-either true pdu staged released refused a x y e f = f
-either false pdu staged released refused a x y e f = e
+either : {A : Type 0} (outcome : A → Outcome) (b : Bool) (fault sound : A) (x y : Outcome) → outcome fault ≡ x → outcome sound ≡ y → outcome (if not b then fault else sound) ≡ (if not b then x else y)
+either outcome true fault sound x y e f = f
+either outcome false fault sound x y e f = e
 
 -- a request whose numbers are these
 record IsAsked (r : Request) (at count : ℕ) (w : Bool) : Type 0 where
@@ -69,12 +67,11 @@ served_by : (r : Request) (staged released : Cells) (refused : Bool) (at count :
     → modbus_reply (request_bytes r) staged released refused ≡ served r staged released refused
 served_by r staged released refused at count w l n e f =
     let pdu : List ℕ = request_bytes r in
-    let asked : Asked = record { function = function_by r; address = at; quantity = count } in
-    let is : request_of pdu ≡ (if not (nat_le (at + count) (area_length (function_by r)) && w) then Err IllegalDataAddress else Ok asked) =
+    let is : request_of pdu ≡ (if not (nat_le (at + count) (area_length (function_by r)) && w) then Err IllegalDataAddress else Ok (record { function = function_by r; address = at; quantity = count })) =
     ap (λ (o : Option Function). judged o pdu) (known r) ∙ judged_is (function_by r) pdu at count w l n.address n.quantity n.writes in
     let y : Outcome = settled r (change_by r) refused (shown_by r staged released) in
     ap (outcome_of pdu staged released refused) is
-    ∙ (either (nat_le (at + count) (area_length (function_by r)) && w) pdu staged released refused asked (read_outcome (reply_bytes r (Failed 2))) y e f
+    ∙ (either (outcome_of pdu staged released refused) (nat_le (at + count) (area_length (function_by r)) && w) (Err IllegalDataAddress) (Ok (record { function = function_by r; address = at; quantity = count })) (read_outcome (reply_bytes r (Failed 2))) y e f
     ∙ ap (λ (b : Bool). if not b then read_outcome (reply_bytes r (Failed 2)) else y) n.there)
 
 and_true : (b : Bool) → (b && true) ≡ b

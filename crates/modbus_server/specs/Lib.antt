@@ -1,5 +1,3 @@
 pub mod Sessions
-pub mod Requests
-pub mod Replies
 pub mod Values
 pub mod Doubles

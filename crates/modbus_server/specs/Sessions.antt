@@ -14,7 +14,7 @@ use Rattle.modbus_wire.specs.declared.header.HeaderFault.{HeaderFault}
 use Rattle.modbus_wire.specs.Frames.{Adu, frame_of, adus}
 use Rattle.modbus_server.specs.declared.serve.SessionEnd.{SessionEnd}
 use Rattle.modbus_server.specs.declared.serve.SessionEnd.TheVariants as ends
-use Rattle.modbus_server.specs.Replies.{Replies, timely_reply}
+use Rattle.modbus_replies.specs.Replies.{Replies, timely_reply}
 
 -- ---- requests that are answered, as they are counted
 

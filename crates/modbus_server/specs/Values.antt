@@ -11,7 +11,7 @@ use Rattle.modbus_wire.specs.declared.reply.Reply.{Reply}
 use Rattle.modbus_wire.specs.declared.reply.Reply.TheVariants.{Bits, Words, Done, Failed}
 use Rattle.modbus_wire.specs.Requests.{request_bytes, is_request, HasRanges}
 use Rattle.modbus_wire.specs.Replies.{reply_bytes}
-use Rattle.modbus_server.specs.Replies.{Outcome, read_outcome, table_cells, modbus_reply}
+use Rattle.modbus_replies.specs.Replies.{Outcome, read_outcome, table_cells, modbus_reply}
 
 -- the cells that it names are there
 abbrev pub are_there : Request → Bool

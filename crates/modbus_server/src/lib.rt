@@ -36,16 +36,14 @@
 mod counting;
 mod doubles;
 mod outputs;
-mod replies;
-mod request;
 mod seats;
 mod serve;
 mod service;
 mod values;
 
 pub use doubles::doubles_are_whole;
+pub use modbus_replies::{reply, timely_reply};
 pub use outputs::Outputs;
-pub use replies::{reply, timely_reply};
 pub use seats::{Seats, Shown};
 pub use serve::{SessionEnd, serve_session};
 pub use service::{OpenServer, Server};

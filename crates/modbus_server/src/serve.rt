@@ -7,9 +7,9 @@ ghost use Rattle.modbus_server.specs.Sessions.{images_of, Answers, Adds, Answers
 
 use crate::counting::count_reply;
 use crate::outputs::Outputs;
-use crate::replies::timely_reply;
 use io_image::{Ages, Naming, Staging};
 use io_model::{CountedRead, CountedWrite, write_all};
+use modbus_replies::timely_reply;
 use modbus_wire::{Adu, HeaderFault, Session, SessionFault, know_any_pieces};
 use plc_host::{Host, Requests, Traffic};
 use std::alloc::AllocError;

@@ -2,6 +2,7 @@
 
 use crate::files::{are_same, file, put_path, refuse, tell_misfit, tell_of, tell_unwritten};
 use il_model::Budget;
+use il_places::Asked;
 use il_text::{Fault, put, tell};
 use io_file::NewFile;
 use io_model::{Counted, CountedWrite};
@@ -167,6 +168,31 @@ pub(crate) fn diff<W: Write, E: CountedWrite>(
     let mut told = Vec::new(rt.alloc());
     let mut telling = Counted::new(&mut told);
     let status = plc_symbols::compare(rt.alloc(), before, after, &mut counted, &mut telling);
+    let failures = counted.faults();
+    ended(status, failures, told.as_slice(), out, err)
+}
+
+/// Prints where the instructions of a source that are asked for stand: the status.
+pub(crate) fn locate<W: Write, E: CountedWrite>(
+    rt: &HostRuntime,
+    path: &str,
+    asked: Asked,
+    out: &mut W,
+    err: &mut E,
+) -> u8 {
+    let source = match file(rt, path) {
+        Ok(source) => source,
+        Err(fault) => return tell_of(path, fault, err),
+    };
+    let mut counted = Counted::new(&mut *out);
+    let mut told = Vec::new(rt.alloc());
+    let status = il_places::locate(
+        rt.alloc(),
+        source.as_slice(),
+        asked,
+        &mut counted,
+        &mut Counted::new(&mut told),
+    );
     let failures = counted.faults();
     ended(status, failures, told.as_slice(), out, err)
 }

@@ -233,6 +233,7 @@ fn done<W: Write, E: CountedWrite>(
         Words::List { image } => calls::list(rt, image, out, err),
         Words::Names { source } => calls::names(rt, source, out, err),
         Words::Diff { old, new } => calls::diff(rt, old, new, out, err),
+        Words::Where { source, asked } => calls::locate(rt, source, asked, out, err),
         Words::Run {
             source,
             commands,

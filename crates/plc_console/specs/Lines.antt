@@ -1,6 +1,6 @@
 -- The lines of an operator's console: which command each asks for, and what it comes to.
-use Rattle.std.specs.Prelude.{◌≡◌, ◌≤◌, ◌<◌, ◌+◌, ◌⊎◌, ℕ, nat_le, if◌then◌else◌, List, [], ◌∷◌, length, true, Option, Some, None}
-use Rattle.std.specs.List.{AllByRecursion}
+use Rattle.std.specs.Prelude.{◌≡◌, ◌≤◌, ◌<◌, ◌+◌, ◌⊎◌, ◌&&◌, not, ℕ, nat_eq, nat_le, if◌then◌else◌, Bool, List, [], ◌∷◌, length, codes, true, Option, Some, None}
+use Rattle.std.specs.List.{AllByRecursion, list_any, starts_with}
 use Rattle.il_model.specs.declared.command.Answer.{Answer}
 use Rattle.il_model.specs.declared.command.Command.{Command}
 use Rattle.il_model.specs.declared.command.Command.TheVariants.{Scan}
@@ -22,17 +22,25 @@ use Rattle.plc_console.specs.Web.{is_of_http}
 abbrev pub line_end : ℕ
 line_end = 10
 
--- so many bytes a line may have, without its end
-abbrev pub longest_line : ℕ
-longest_line = 131_072
+-- the line of a change to a long image, as `plc ask` writes it; it has no comma, so one text at most is read of it
+abbrev pub is_long_change : List ℕ → Bool
+is_long_change line = starts_with nat_eq line (codes "{\"long_change\":\"") && not (list_any (λ byte. nat_eq 44 byte) line)
+
+-- so many bytes a line is kept with, without its end
+abbrev pub most_kept : ℕ
+most_kept = 2_105_344
+
+-- so many bytes a line may have
+abbrev pub longest_line : List ℕ → ℕ
+longest_line line = if is_long_change line then most_kept else 131_072
 
 -- no line ends among these bytes
 abbrev pub HasNoEnd : List ℕ → Type 0
 HasNoEnd bytes = AllByRecursion (λ byte. byte ≡ line_end → ⊥) bytes
 
--- what is kept of a line: its bytes, or that it's too long
+-- what is kept of a line: its bytes, or that there are too many
 abbrev pub kept : List ℕ → Option (List ℕ)
-kept line = if nat_le (length line) longest_line then Some line else None
+kept line = if nat_le (length line) most_kept then Some line else None
 
 -- scans are the driver's alone
 abbrev pub IsScan : NamedCommand → Type 0
@@ -42,14 +50,14 @@ IsScan _ = ⊥
 -- The line is this command, whose names were looked up in the program.
 pub record AsksFor (Q : Program) (line : List ℕ) (command : Command) : Type 0 where
   pub named : NamedCommand
-  pub short : length line ≤ longest_line
+  pub short : length line ≤ longest_line line
   pub read : HasAsked line (asked.Command named)
   pub no_scan : IsScan named → ⊥
   pub is : command ≡ meant Q named
 
 -- the line is this question
 pub record AsksAbout (line : List ℕ) (question : Question) : Type 0 where
-  pub short : length line ≤ longest_line
+  pub short : length line ≤ longest_line line
   pub read : HasAsked line (asked.Question question)
 
 -- the line is a scan
@@ -60,11 +68,11 @@ pub record AsksForScan (line : List ℕ) : Type 0 where
 
 -- the line is too long, neither a command nor a question, or a scan
 abbrev pub AsksForNothing : List ℕ → Type 0
-AsksForNothing line = (longest_line < length line) ⊎ (HasNothing line ⊎ AsksForScan line)
+AsksForNothing line = (longest_line line < length line) ⊎ (HasNothing line ⊎ AsksForScan line)
 
 -- The line is one of HTTP: no operator sends it, but a browser does, whatever port it's led to.
 abbrev pub IsOfHttp : List ℕ → Type 0
-IsOfHttp line = (length line ≤ longest_line) × (is_of_http line ≡ true)
+IsOfHttp line = (length line ≤ longest_line line) × (is_of_http line ≡ true)
 
 -- so many lines in a row may be refused; one more ends the session
 abbrev pub most_refused : ℕ

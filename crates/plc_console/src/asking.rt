@@ -19,10 +19,11 @@ use vr_client::{GroupClient, RetryTimer};
 use vr_ports::{Input, Link, send_all};
 
 /// Submits a command under the client's next number, and receives until it is answered: by the first REPLY with that
-/// number, whatever else comes meanwhile. After each period without it the same request is sent again, to all. It is
-/// unanswered where the link is closed meanwhile, or it's given up, since there has been no majority for as long as that
-/// is waited for: then the client has started again, and may submit; what was given up may still be done. Or nothing was
-/// submitted, since the client has a request that waits, its numbers are used up, or memory runs out.
+/// number, whatever else comes meanwhile. After each period without it, for a change to a long image one of a second at
+/// the least, the same request is sent again, to all. It is unanswered where the link is closed meanwhile, or it's
+/// given up, since there has been no majority for as long as that is waited for: then the client has started again, and
+/// may submit; what was given up may still be done. Or nothing was submitted, since the client has a request that
+/// waits, its numbers are used up, or memory runs out.
 pub fn ask<R: Wait + Clock + Copy, L: Link>(
     host: &Host<R>,
     patience: &mut Patience,
@@ -46,7 +47,7 @@ pub fn ask<R: Wait + Clock + Copy, L: Link>(
         return Err(Unanswered);
     };
     link.send(request);
-    let mut timer = RetryTimer::new(patience.period(), Instant::now(&rt).ok());
+    let mut timer = RetryTimer::new(patience.period(command), Instant::now(&rt).ok());
     patience.begin();
     for _ in rt.forever() {
         if let Some(answer) = hear(client, link)? {

@@ -1,7 +1,9 @@
 //! The line that comes in.
 
-ghost use Rattle.std.specs.Prelude.{◌≡◌, ◌++◌, ◌∷◌, [], ◌↔◌, List, ℕ, false, true, IfOk, OnErr, OnOk};
-ghost use Rattle.plc_console.specs.Lines.{kept, EndsAt, IsScan, IsWish, IsWishOf, StaysAt};
+ghost use Rattle.std.specs.Prelude.{◌≡◌, ◌++◌, ◌∷◌, [], ◌↔◌, List, ℕ, codes, false, nat_eq, true, IfOk, OnErr, OnOk};
+ghost use Rattle.std.specs.List.{list_any, starts_with};
+ghost use Rattle.plc_console.specs.Lines.{is_long_change, kept, longest_line, EndsAt, IsScan, IsWish, IsWishOf};
+ghost use Rattle.plc_console.specs.Lines.{StaysAt};
 
 use crate::web::is_of_http;
 use il_loader::Image;
@@ -13,6 +15,9 @@ use std::marker::Model;
 
 /// So many bytes a line may have, without its end.
 const LONGEST: usize = 131_072;
+
+/// So many one of a change to a long image, as `plc ask` writes it.
+const LONGEST_CHANGE: usize = 2_105_344;
 
 /// So many lines in a row may be refused; one more ends the session.
 const MOST_REFUSED: u8 = 2;
@@ -45,13 +50,13 @@ pub(crate) struct Line {
 
 impl Model for Line {
     ghost use Rattle.std.specs.Prelude.{◌≤◌, ℕ, List, Option, Some, None, length, if◌then◌else◌};
-    ghost use Rattle.plc_console.specs.declared.line.TheConstants.{LONGEST};
+    ghost use Rattle.plc_console.specs.declared.line.TheConstants.{LONGEST_CHANGE};
 
     ghost Value = { Option (List ℕ) };
 
     ghost view = { λ l. if l.is_too_long then None else Some l.bytes.items };
 
-    ghost invariant = { λ l. length l.bytes.items ≤ LONGEST };
+    ghost invariant = { λ l. length l.bytes.items ≤ LONGEST_CHANGE };
 }
 
 impl Line {
@@ -69,7 +74,7 @@ impl Line {
     pub(crate) fn push(&mut self, byte: u8) -> Result<(), AllocError>
         ensures { OnOk result ((line : List ℕ) → self.old ≡ kept line → self.new ≡ kept (line ++ byte ∷ [])) }
     {
-        if self.bytes.len() < LONGEST {
+        if self.bytes.len() < LONGEST_CHANGE {
             self.bytes.push(byte)?;
         } else {
             self.is_too_long = true;
@@ -94,17 +99,21 @@ impl Line {
 
     /// What the line asks for, the names of a command looked up in the program. The session ends at a line of HTTP. The
     /// line is refused where it's too long, neither a command nor a question, or a scan.
-    #[tactic(auto, using(crate::proofs::Kept::http_asked, crate::proofs::Kept::long_asked, crate::proofs::Kept::nothing_asked, crate::proofs::Kept::question_asked, crate::proofs::Kept::wish_asked))]
+    #[tactic(auto, using(crate::proofs::Kept::http_asked, crate::proofs::Kept::long_asked, crate::proofs::Kept::longer_asked, crate::proofs::Kept::nothing_asked, crate::proofs::Kept::question_asked, crate::proofs::Kept::wish_asked))]
     pub(crate) fn wish(&self, alloc: Global, image: &Image) -> Result<Wish, AllocError>
         ensures { IfOk result (λ wish. (line : List ℕ) → self.now ≡ kept line → IsWish image.now line wish) }
     {
         if self.is_too_long {
             return Ok(Wish::Refuse);
         }
-        if is_of_http(self.bytes.as_slice()) {
+        let line = self.bytes.as_slice();
+        if line.len() > longest_line(line) {
+            return Ok(Wish::Refuse);
+        }
+        if is_of_http(line) {
             return Ok(Wish::Leave);
         }
-        match read_asked(alloc, self.bytes.as_slice()) {
+        match read_asked(alloc, line) {
             Ok(Asked::Command(named)) => Ok(unless_scan(image, named)),
             Ok(Asked::Question(question)) => Ok(Wish::Tell(question)),
             Err(JsonFault::Shape) => Ok(Wish::Refuse),
@@ -151,6 +160,37 @@ pub(crate) fn stays(wish: &Wish, refused: &mut u8) -> bool
             *refused = 0;
             true
         }
+    }
+}
+
+fn begins_a_long_change(line: &[u8]) -> bool
+    ensures { result ≡ starts_with nat_eq line.now (codes "{\"long_change\":\"") }
+{
+    line.starts_with(b"{\"long_change\":\"")
+}
+
+fn has_comma(line: &[u8]) -> bool
+    ensures { result ≡ list_any (λ byte. nat_eq 44 byte) line.now }
+{
+    line.contains(&b',')
+}
+
+/// Whether a line is that of a change to a long image, as `plc ask` writes it. It has no comma, so of one that is none
+/// after all one text at most is read: a line of so many numbers would take twenty times its own bytes.
+fn is_long_change(line: &[u8]) -> bool
+    ensures { result ≡ is_long_change line.now }
+{
+    begins_a_long_change(line) && !has_comma(line)
+}
+
+/// So many bytes this line may have.
+fn longest_line(line: &[u8]) -> usize
+    ensures { result ≡ longest_line line.now }
+{
+    if is_long_change(line) {
+        LONGEST_CHANGE
+    } else {
+        LONGEST
     }
 }
 

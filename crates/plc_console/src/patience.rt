@@ -1,5 +1,6 @@
 //! How long a command may wait for its answer.
 
+use il_model::{Command, is_long_image};
 use std::sync::Arc;
 use std::sync::atomic::{AtomicBool, Ordering};
 use std::time::{Clock, Duration, Instant};
@@ -7,7 +8,12 @@ use std::time::{Clock, Duration, Instant};
 /// In seconds: a command is given up after so long without a majority, in which nothing can answer it.
 const LONGEST: u64 = 10;
 
-/// How long a client waits: after each period it asks again, and where there's no majority it gives up after a while.
+/// In seconds: a change to a long image is sent again after so long at the least. Replicas read it for longer than any
+/// other command, and as often as it was sent meanwhile it waits in memory.
+const LEAST: u64 = 1;
+
+/// How long a client waits: after each period it asks again, for a change to a long image after a second at the least,
+/// and where there's no majority it gives up after a while.
 #[derive(Drop)]
 pub struct Patience {
     period: Duration,
@@ -20,7 +26,8 @@ pub struct Patience {
 }
 
 impl Patience {
-    /// After each period without an answer a command is sent again. None is given up.
+    /// After each period without an answer a command is sent again, a change to a long image after a second at the
+    /// least. None is given up.
     pub fn new(period: Duration) -> Patience {
         Patience {
             period,
@@ -38,8 +45,14 @@ impl Patience {
         }
     }
 
-    pub(crate) fn period(&self) -> Duration {
-        self.period
+    /// After how long without an answer this command is sent again.
+    pub(crate) fn period(&self, command: &Command) -> Duration {
+        let least = Duration::from_secs(LEAST);
+        if is_long(command) && self.period.as_nanos() < least.as_nanos() {
+            least
+        } else {
+            self.period
+        }
     }
 
     /// Whether there's no majority now.
@@ -82,5 +95,13 @@ impl Patience {
             }
             None => false,
         }
+    }
+}
+
+/// Whether a command is a change to a long image.
+fn is_long(command: &Command) -> bool {
+    match command {
+        Command::Change(image) => is_long_image(image.as_slice()),
+        _ => false,
     }
 }

@@ -290,12 +290,12 @@ fn serve_piece<W: CountedWrite, D: Submits>(
 
 /// Serves a session to its end. Each line that is a command of those in files of commands, but for a scan, is submitted
 /// and answered once, its names looked up in the program in force, and the line of its answer is written; for a question
-/// what the desk tells is; for each other line, as one over 131072 bytes, `plc: commands`. The program in force is that of
-/// the image, and after a change that is done the one that it brought, whose image this is then. Lines have their turns in
-/// order, one behind the answer of the other. What the reader has behind its last whole line is no line. A line of HTTP
-/// ends it by `Dismissed`, and so does the third one in a row that would be refused: nothing is written or done for that
-/// one, nor for what comes behind it. Where a session ends by `Device`, for want of memory or by a command without an
-/// answer, a prefix of the answers went out.
+/// what the desk tells is; for each other line, as one of more bytes than `specs/Lines` lets it have, `plc: commands`. The
+/// program in force is that of the image, and after a change that is done the one that it brought, whose image this is
+/// then. Lines have their turns in order, one behind the answer of the other. What the reader has behind its last whole
+/// line is no line. A line of HTTP ends it by `Dismissed`, and so does the third one in a row that would be refused:
+/// nothing is written or done for that one, nor for what comes behind it. Where a session ends by `Device`, for want of
+/// memory or by a command without an answer, a prefix of the answers went out.
 pub fn serve_console<H: Wait, R: CountedRead, W: CountedWrite, D: Submits>(
     rt: &H,
     alloc: Global,

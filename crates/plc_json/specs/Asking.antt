@@ -46,9 +46,9 @@ HasCommand text c = IsUtf8 text × (command_in text ≡ Some (named c))
 abbrev pub IsChange : List ℕ → List ℕ → Type 0
 IsChange image text = HasCommand text (Plain (Change image))
 
--- a change as data, with these hex digits
-abbrev pub digits_data : List ℕ → Data
-digits_data digits = object (member (codes "change") (string digits) no_members)
+-- a change as data, with this key and these hex digits
+abbrev pub digits_data : List ℕ → List ℕ → Data
+digits_data key digits = object (member key (string digits) no_members)
 
 abbrev pub bytes_of : Vec ℕ Global → List ℕ
 bytes_of v = v.items

@@ -1,9 +1,10 @@
 -- The commands that JSON data gives, by RFC 8259's values: an array of them, each a word or an object with one member.
 use Rattle.std.specs.Prelude.{◌≡◌, ℕ, ◌^◌, ◌&&◌, ◌||◌, not, ℤ, pos, negsuc, Bool, true, false, List, [], ◌∷◌, map}
-use Rattle.std.specs.Prelude.{Option, Some, None, option_and_then, option_map, bytes_eq, codes, nat_eq, nat_lt, nat_le}
-use Rattle.std.specs.Prelude.{length, Result, Ok, Err, if◌then◌else◌, IsUtf8, string_bytes}
+use Rattle.std.specs.Prelude.{Option, Some, None, option_and_then, option_map, bytes_eq, codes, nat_eq, nat_lt}
+use Rattle.std.specs.Prelude.{Result, Ok, Err, if◌then◌else◌, IsUtf8, string_bytes}
 use Rattle.std.specs.List.{range_with_len}
-use Rattle.il_model.specs.declared.limits.TheConstants.{BITS, WORDS, MOST_IMAGE_BYTES}
+use Rattle.il_model.specs.declared.limits.TheConstants.{BITS, WORDS}
+use Rattle.il_model.specs.Limits.{is_short_image, is_long_image}
 use Rattle.il_model.specs.declared.cells.Cells.{Cells}
 use Rattle.il_model.specs.declared.cells.InImage.{InImage}
 use Rattle.il_model.specs.declared.command.Command.{Command}
@@ -167,16 +168,16 @@ abbrev pub force_of : Data → Option Named
 force_of d = option_map (λ f. Force f.0 f.1) (forced_at d)
 
 -- bytes that may be those of an image
-abbrev pub image_bytes : Result (List ℕ) FromHexError → Option (List ℕ)
-image_bytes (Ok bytes) = if nat_le (length bytes) MOST_IMAGE_BYTES then Some bytes else None
-image_bytes (Err fault) = None
+abbrev pub image_bytes : (List ℕ → Bool) → Result (List ℕ) FromHexError → Option (List ℕ)
+image_bytes may (Ok bytes) = if may bytes then Some bytes else None
+image_bytes may (Err fault) = None
 
 -- hex digits, two a byte, of both cases
-abbrev pub bytes_of : List ℕ → Option (List ℕ)
-bytes_of digits = image_bytes (decode_of digits)
+abbrev pub bytes_of : (List ℕ → Bool) → List ℕ → Option (List ℕ)
+bytes_of may digits = image_bytes may (decode_of digits)
 
-abbrev pub change_of : Data → Option Command
-change_of d = option_map Change (option_and_then bytes_of (as_str d))
+abbrev pub change_of : (List ℕ → Bool) → Data → Option Command
+change_of may d = option_map Change (option_and_then (bytes_of may) (as_str d))
 
 -- the command of a key
 abbrev pub keyed_of : List ℕ × Data → Option Named
@@ -186,7 +187,8 @@ keyed_of (key, d) = if bytes_eq key (codes "scan") then option_map Plain (scan_o
     if bytes_eq key (codes "force") then force_of d else (
     if bytes_eq key (codes "unforce") then option_map Unforce (as_str d) else (
     if bytes_eq key (codes "read") then option_map Read (as_str d) else (
-    if bytes_eq key (codes "change") then option_map Plain (change_of d) else None))))))
+    if bytes_eq key (codes "change") then option_map Plain (change_of is_short_image d) else (
+    if bytes_eq key (codes "long_change") then option_map Plain (change_of is_long_image d) else None)))))))
 
 abbrev pub only_member : Members → Option (List ℕ × Data)
 only_member no_members = None

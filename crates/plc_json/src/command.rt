@@ -3,6 +3,7 @@
 ghost use Rattle.std.specs.Prelude.{◌≡◌, Some, None, IfOk, IfErr, map, option_map, string_bytes};
 ghost use Rattle.serde_json.specs.Find.{as_str};
 ghost use Rattle.serde_json.specs.View.{view, members_view};
+ghost use Rattle.il_model.specs.Limits.{is_short_image, is_long_image};
 ghost use Rattle.plc_json.specs.Commands.{position_of, word_alone, forced_value, scan_of, force_of, forced_at};
 ghost use Rattle.plc_json.specs.Commands.{keyed_of, scan_with, only_member, change_of, command_of, all_of, named};
 ghost use Rattle.plc_json.specs.Commands.{HasCommands, HasNoCommands, Plain};
@@ -11,7 +12,7 @@ ghost use Rattle.plc_json.specs.declared.command.JsonFault.TheVariants.{Memory, 
 
 use crate::image::in_image;
 use hex::FromHexError;
-use il_model::{Command, ImageBytes, Value};
+use il_model::{Command, ImageBytes, Value, is_long_image, is_short_image};
 use serde_json::{Map, Value as Json};
 use std::alloc::{AllocError, AllocFailed, Global};
 use thiserror::Error;
@@ -92,7 +93,8 @@ impl From<FromHexError> for JsonFault {
 /// Every command is judged before any is given. `Shape` is the answer where the text is no JSON (RFC 8259), where the
 /// value is no array of commands of the shapes that this crate gives (another word or key, a key too many or one left
 /// out), where a bit or a word lies outside its area or is given twice, where a number has a fraction or an exponent,
-/// is `-0`, or lies outside its field's type, and where an image is no pairs of hex digits, or more than 32768 of them.
+/// is `-0`, or lies outside its field's type, and where an image is no pairs of hex digits, or of a `change` more than
+/// 32768 of them, of a `long_change` no more than these, or more than 1048576.
 /// Any text is a name, and what is forced is judged whatever the name. Of equal keys in one object the last counts.
 /// `Memory` comes where memory ran out.
 pub fn commands(alloc: Global, text: &[u8]) -> Result<Vec<NamedCommand>, JsonFault>
@@ -179,6 +181,7 @@ fn keyed(alloc: Global, key: &str, argument: &Json) -> Result<NamedCommand, Json
             name: name(alloc, argument)?,
         }),
         "change" => change(alloc, argument),
+        "long_change" => long_change(alloc, argument),
         _ => Err(JsonFault::Shape),
     }
 }
@@ -206,13 +209,34 @@ fn position(argument: &Json) -> Option<u16>
     u16::try_from(argument.as_u64()?).ok()
 }
 
-/// A change of the program, by the hex digits of an image.
+/// A change of the program, by the hex digits of an image that isn't long.
 fn change(alloc: Global, argument: &Json) -> Result<NamedCommand, JsonFault>
-    ensures found { IfOk result (λ c. option_map Plain (change_of (view argument.now)) ≡ Some (named c)) }
-    ensures refused { IfErr result (λ e. e ≡ Shape → option_map Plain (change_of (view argument.now)) ≡ None) }
+    ensures found { IfOk result (λ c. option_map Plain (change_of is_short_image (view argument.now))
+        ≡ Some (named c)) }
+    ensures refused { IfErr result (λ e. e ≡ Shape
+        → option_map Plain (change_of is_short_image (view argument.now)) ≡ None) }
 {
     let digits = argument.as_str().ok_or(JsonFault::Shape)?;
     let bytes = hex::decode(alloc, digits)?;
+    if !is_short_image(bytes.as_slice()) {
+        return Err(JsonFault::Shape);
+    }
+    let bytes = ImageBytes::new(bytes).ok_or(JsonFault::Shape)?;
+    Ok(NamedCommand::Plain(Command::Change(bytes)))
+}
+
+/// One by those of a long image.
+fn long_change(alloc: Global, argument: &Json) -> Result<NamedCommand, JsonFault>
+    ensures found { IfOk result (λ c. option_map Plain (change_of is_long_image (view argument.now))
+        ≡ Some (named c)) }
+    ensures refused { IfErr result (λ e. e ≡ Shape
+        → option_map Plain (change_of is_long_image (view argument.now)) ≡ None) }
+{
+    let digits = argument.as_str().ok_or(JsonFault::Shape)?;
+    let bytes = hex::decode(alloc, digits)?;
+    if !is_long_image(bytes.as_slice()) {
+        return Err(JsonFault::Shape);
+    }
     let bytes = ImageBytes::new(bytes).ok_or(JsonFault::Shape)?;
     Ok(NamedCommand::Plain(Command::Change(bytes)))
 }

@@ -1,6 +1,6 @@
 //! The text of a change.
 
-ghost use Rattle.std.specs.Prelude.{◌≡◌, ◌≤◌, IfOk, Ok, Some, string_bytes};
+ghost use Rattle.std.specs.Prelude.{◌≡◌, ◌≤◌, IfOk, Ok, Some, codes, string_bytes};
 ghost use Rattle.hex.specs.Hex.{decode_of};
 ghost use Rattle.il_model.specs.declared.command.Command.TheVariants.{Change};
 ghost use Rattle.serde_json.specs.Data.{depth};
@@ -9,7 +9,7 @@ ghost use Rattle.serde_json.specs.View.{view};
 ghost use Rattle.plc_json.specs.Commands.{Plain, command_of};
 ghost use Rattle.plc_json.specs.Asking.{IsChange, digits_data};
 
-use il_model::ImageBytes;
+use il_model::{ImageBytes, is_short_image};
 use serde_json::{Value as Json, json};
 use std::alloc::{AllocError, Global};
 
@@ -27,8 +27,13 @@ fn change_value(alloc: Global, image: &ImageBytes) -> Result<Json, AllocError>
     ensures says { IfOk result (λ v. command_of (view v) ≡ Some (Plain (Change image.now))) }
     ensures nests { IfOk result (λ v. depth (view v) ≤ max_depth) }
 {
-    let digits = digits_of(alloc, image.as_slice())?;
-    digits_value(alloc, digits)
+    let bytes = image.as_slice();
+    let digits = digits_of(alloc, bytes)?;
+    if is_short_image(bytes) {
+        digits_value(alloc, digits)
+    } else {
+        long_digits_value(alloc, digits)
+    }
 }
 
 /// The hex digits of bytes.
@@ -38,9 +43,16 @@ fn digits_of(alloc: Global, bytes: &[u8]) -> Result<String, AllocError>
     hex::encode(alloc, bytes)
 }
 
-/// An object with one member, the hex digits of a change.
+/// An object with one member, the hex digits of a change to an image that isn't long.
 fn digits_value(alloc: Global, digits: String) -> Result<Json, AllocError>
-    ensures { IfOk result (λ v. view v ≡ digits_data (string_bytes digits)) }
+    ensures { IfOk result (λ v. view v ≡ digits_data (codes "change") (string_bytes digits)) }
 {
     json!(in alloc; {"change": digits})
+}
+
+/// One with those of a change to a long image.
+fn long_digits_value(alloc: Global, digits: String) -> Result<Json, AllocError>
+    ensures { IfOk result (λ v. view v ≡ digits_data (codes "long_change") (string_bytes digits)) }
+{
+    json!(in alloc; {"long_change": digits})
 }

@@ -9,12 +9,13 @@ use Rattle.il_loader.specs.Judging.{image_of}
 use Rattle.ctl_debugger.specs.Owned.{Owned, cold_owned}
 use Rattle.plc_json.specs.declared.command.NamedCommand.{NamedCommand}
 use Rattle.il_text.specs.declared.fault.Fault.{Fault}
-use Rattle.il_text.specs.Lines.{lines_of}
+use Rattle.il_places.specs.Places.{PlacesText}
+use Rattle.il_places.specs.Located.{placed_lines}
 use Rattle.il_text.specs.Meaning.{IsTypedProgramOfText, IsTextFault, OrMemory}
 use Rattle.plc_tool.specs.Calls.{IsAnswered}
 use Rattle.plc_names.specs.Named.{answers_by}
 use Rattle.il_text.specs.Telling.{Puts, IsWhyStopped}
-use Rattle.plc_tool.specs.Calls.{IsRun, IsRunCutShort}
+use Rattle.plc_tool.specs.Calls.{AreToldPlaces, IsRun, IsRunCutShort}
 
 pub are_answers : (text : List ℕ) (budget : ℕ) (commands : List NamedCommand) (Q : Program) (c : Owned) → IsTypedProgramOfText text Q → IsTyped Q → ReadsImages image_of → c ≡ cold_owned Q budget → IsAnswered text budget commands (answers_by c commands)
 are_answers text budget commands Q c is typed reads cold = record {
@@ -26,12 +27,12 @@ are_answers text budget commands Q c is typed reads cold = record {
   answers_are = ap (λ (o : Owned). answers_by o commands) cold;
 }
 
-module _ {W : Type 0} (w : CountedWriter W) (text : List ℕ) (budget : ℕ) (commands : List NamedCommand) (c : Owned) (old new : W) (are : IsAnswered text budget commands (answers_by c commands)) where
-  pub is_run : (r : Result (Unit {0}) Fault) → Puts w (lines_of (answers_by c commands)) old new r → OnOk r (IsRun text budget commands (w.held old) (w.held new))
-  is_run (Ok x) h = record { answers = answers_by c commands; are = are; written = h.sent }
+module _ {W : Type 0} (w : CountedWriter W) (text : List ℕ) (budget : ℕ) (commands : List NamedCommand) (c : Owned) (ps : PlacesText) (old new : W) (are : IsAnswered text budget commands (answers_by c commands)) (told : AreToldPlaces text commands ps) where
+  pub is_run : (r : Result (Unit {0}) Fault) → Puts w (placed_lines ps (answers_by c commands)) old new r → OnOk r (IsRun text budget commands (w.held old) (w.held new))
+  is_run (Ok x) h = record { answers = answers_by c commands; are = are; places = ps; told = told; written = h.sent }
   is_run (Err e) h = tt
 
-  pub is_cut_short : (r : Result (Unit {0}) Fault) → Puts w (lines_of (answers_by c commands)) old new r
+  pub is_cut_short : (r : Result (Unit {0}) Fault) → Puts w (placed_lines ps (answers_by c commands)) old new r
       → IfErr r (λ e. IsWhyStopped e (w.faults old) (w.faults new) × IsRunCutShort w text budget commands old new ⊎ OrMemory (IsTextFault text) e × new ≡ old)
   is_cut_short (Ok x) h = tt
-  is_cut_short (Err e) h = inl (h.why, record { answers = answers_by c commands; are = are; written = h.sent })
+  is_cut_short (Err e) h = inl (h.why, record { answers = answers_by c commands; are = are; places = ps; told = told; written = h.sent })

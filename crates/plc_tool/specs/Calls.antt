@@ -1,5 +1,6 @@
 -- What the calls of the program give: the image of a text, a listing, a change, and answers to commands.
-use Rattle.std.specs.Prelude.{◌≡◌, ◌<◌, ◌⊎◌, ℕ, List, ◌∷◌, [], ◌++◌, length, take, codes, Option}
+use Rattle.std.specs.Prelude.{◌≡◌, ◌<◌, ◌⊎◌, ℕ, List, ◌∷◌, [], ◌++◌, length, take, codes, Option, Bool, false}
+use Rattle.std.specs.List.{list_any}
 use Rattle.std.specs.Fmt.{decimal}
 use Rattle.std.specs.Io.KnownBytes.{Appends}
 use Rattle.io_model.specs.Streams.{Failed}
@@ -15,12 +16,15 @@ use Rattle.il_loader.specs.Images.{Reading, ReadsImages}
 use Rattle.il_lister.specs.Listing.{listing}
 use Rattle.il_text.specs.declared.fault.Fault.{Fault}
 use Rattle.il_text.specs.declared.fault.Fault.TheVariants as faults
-use Rattle.il_text.specs.Lines.{lines_of}
 use Rattle.il_text.specs.Meaning.{IsTypedProgramOfText, IsImageOfText, IsTextFault, IsGoodText}
+use Rattle.il_model.specs.Answers.{is_change}
+use Rattle.il_places.specs.Places.{PlacesText, AreKnownPlaces}
+use Rattle.il_places.specs.Located.{placed_lines}
 use Rattle.ctl_debugger.specs.Owned.{cold_owned}
 use Rattle.plc_json.specs.declared.command.JsonFault.{JsonFault}
 use Rattle.plc_json.specs.declared.command.JsonFault.TheVariants as json
 use Rattle.plc_json.specs.declared.command.NamedCommand.{NamedCommand}
+use Rattle.plc_json.specs.declared.command.NamedCommand.TheVariants.{Plain}
 use Rattle.plc_json.specs.Commands.{HasNoCommands}
 use Rattle.plc_json.specs.Asking.{IsChange}
 use Rattle.plc_names.specs.Named.{named_answers}
@@ -101,18 +105,33 @@ pub record IsAnswered (text : List ℕ) (budget : ℕ) (commands : List NamedCom
   pub reads : ReadsImages reading
   pub answers_are : answers ≡ named_answers reading (cold_owned program budget) commands
 
--- the answers of the text to the commands were written, a line each
+-- another program goes on by the command
+abbrev pub changes : NamedCommand → Bool
+changes (Plain command) = is_change command
+changes _ = false
+
+-- the places that are told beside the answers: of a text of units, unless a command changes its program
+abbrev pub AreToldPlaces : List ℕ → List NamedCommand → PlacesText → Type 0
+AreToldPlaces text commands places = AreKnownPlaces text (list_any changes commands) places
+
+-- The answers of the text to the commands were written, a line each, with the places of their positions where they are
+-- told. For a text without units these are `lines_of` the answers (the law `texts_without_units_tell_no_places` of
+-- il_places).
 pub record IsRun (text : List ℕ) (budget : ℕ) (commands : List NamedCommand) (old new : Option (List ℕ)) : Type 0 where
   pub answers : List Answer
   pub are : IsAnswered text budget commands answers
-  pub written : Appends old new (lines_of answers)
+  pub places : PlacesText
+  pub told : AreToldPlaces text commands places
+  pub written : Appends old new (placed_lines places answers)
 
 -- a prefix of the lines of the answers was written, before the writer failed in the call or memory ran out
 pub record IsRunCutShort {W : Type 0} (w : CountedWriter W) (text : List ℕ) (budget : ℕ)
     (commands : List NamedCommand) (old new : W) : Type 0 where
   pub answers : List Answer
   pub are : IsAnswered text budget commands answers
-  pub written : (n : ℕ) × Appends (w.held old) (w.held new) (take n (lines_of answers))
+  pub places : PlacesText
+  pub told : AreToldPlaces text commands places
+  pub written : (n : ℕ) × Appends (w.held old) (w.held new) (take n (placed_lines places answers))
 
 -- the fault of a text that gives no commands
 abbrev pub fault_of : JsonFault → Fault

@@ -20,7 +20,7 @@
 //! Proved: a status of 0 only with exactly the lines of the answers (`run`), the image's bytes (`asm`), the listing
 //! (`list`) or the report of a run of the schedule (`sim`) written; 1 only where the text or the other file has the
 //! fault that is told, and nothing else was written; 2 only with a prefix of it, and a device is told only where a
-//! writer failed.
+//! writer failed. Of a text of units `run` tells each position with its place, unless a command is a change.
 //!
 //! Tests (nothing rests on them alone): rows of `tests_rows` have every printed line, and `files.rows` of `tools/words`
 //! has streams that fail.

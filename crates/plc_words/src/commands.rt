@@ -7,8 +7,8 @@ use crate::options::{
     CHANGE, CHECK, CONSOLE_SOCKET, CRASH, DIRECTORY, IDLE, LISTED, PERIOD, REPORT, SCANS, SOURCE,
     STALE, TIMEOUT, asked_commands, budget, changed, changed_listing, console, console_key, count,
     directory, epoch, every, failures, field_status, file, flag, forget, formatted_source,
-    group_file, links, machine, made_store, new_group, next_epoch, once, port, served_group,
-    served_source, status, stop, text, trace, wait,
+    group_file, links, machine, made_store, new_group, next_epoch, once, place, port, position,
+    served_group, served_source, status, stop, text, trace, wait,
 };
 use clap::{Arg, Command};
 use std::alloc::{AllocError, Global};
@@ -20,6 +20,7 @@ enum Named {
     List,
     Names,
     Diff,
+    Where,
     Run,
     Sim,
     Format,
@@ -30,11 +31,12 @@ enum Named {
 }
 
 /// All commands, in the order in which help has them.
-const ALL: [Named; 11] = [
+const ALL: [Named; 12] = [
     Named::Asm,
     Named::List,
     Named::Names,
     Named::Diff,
+    Named::Where,
     Named::Run,
     Named::Sim,
     Named::Format,
@@ -92,6 +94,7 @@ fn word_of<'a>(named: Named) -> &'a str {
         Named::List => "list",
         Named::Names => "names",
         Named::Diff => "diff",
+        Named::Where => "where",
         Named::Run => "run",
         Named::Sim => "sim",
         Named::Format => "format",
@@ -109,6 +112,8 @@ fn about<'a>(named: Named) -> &'a str {
         Named::Names => "Prints a program's names with their places and Modbus addresses, as CSV",
         Named::Diff =>
             "Prints what goes on by its name where a plant changes from one program to another",
+        Named::Where =>
+            "Prints at which line and in which instance the instruction of a position stands",
         Named::Run => "Runs a program over a file of commands, and prints one answer a line",
         Named::Sim => "Runs a schedule over replicas of a program, and prints a report",
         Named::Format =>
@@ -127,6 +132,7 @@ fn help_of<'a>(named: Named) -> &'a str {
         Named::List => help::LISTING,
         Named::Names => help::NAMES,
         Named::Diff => help::DIFFERENCE,
+        Named::Where => help::PLACES,
         Named::Run => help::COMMANDS,
         Named::Sim => help::SCHEDULE,
         Named::Format => help::FORMATTING,
@@ -150,6 +156,7 @@ fn put_args<'a>(alloc: Global, named: Named, args: &mut Vec<Arg<'a>>) -> Result<
         Named::List => put_all(alloc, args, &list_forms()),
         Named::Names => put_all(alloc, args, &[source()]),
         Named::Diff => put_all(alloc, args, &diff_forms()),
+        Named::Where => put_all(alloc, args, &where_forms()),
         Named::Run => put_all(alloc, args, &run_forms()),
         Named::Sim => put_all(alloc, args, &sim_forms()),
         Named::Format => put_all(alloc, args, &format_forms()),
@@ -186,6 +193,10 @@ fn diff_forms() -> [Form; 2] {
         file("OLD").help("The text of the program that runs"),
         file("NEW").help("The text of the program to go on with"),
     ]
+}
+
+fn where_forms() -> [Form; 3] {
+    [source(), place(), position()]
 }
 
 fn run_forms() -> [Form; 3] {

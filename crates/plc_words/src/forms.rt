@@ -10,10 +10,13 @@ use crate::operators::OperatorsAt;
 use crate::options::{
     BUDGET, CHANGE, CHANGED, CHECK, CONSOLE, CONSOLE_KEY, CONSOLE_SOCKET, CRASH, DIRECTORY, EPOCH,
     EVERY, FAILURES, FORGET, GROUP, IDLE, LINKS, LISTED, MACHINE, NEW_GROUP, NEXT_EPOCH, ONCE,
-    PERIOD, PORT, REPORT, SCANS, STALE, STATUS, STOP, STORE, TCP, TIMEOUT, TRACE, WAIT,
+    PERIOD, PLACE, PORT, POSITION, REPORT, SCANS, STALE, STATUS, STOP, STORE, TCP, TIMEOUT, TRACE,
+    WAIT,
 };
+use crate::places::place_at;
 use clap::ArgMatches;
 use il_model::Budget;
+use il_places::Asked;
 use plc_settings::{ConsoleAt, Links, Settings};
 use std::alloc::{AllocError, Global};
 use std::convert::AsStr;
@@ -34,6 +37,8 @@ const NO_CONSOLE: &str =
     "error: CONSOLE is a port, 1 to 65535, an address with one, or a path with a '/'\n";
 
 const NO_CONSOLE_AT: &str = "error: --console-key is given beside --console or --console-socket\n";
+
+const NO_PLACE: &str = "error: AT is a line, from 1, or a line and a column, as 13:5\n";
 
 const NO_STORES: &str = "error: --store is given once, or once for each of the 2F+1 replicas\n";
 
@@ -70,6 +75,11 @@ pub enum Words<'a> {
     Diff {
         old: &'a str,
         new: &'a str,
+    },
+    /// Prints where the instructions of a program stand in its text.
+    Where {
+        source: &'a str,
+        asked: Asked,
     },
     /// Runs the program of a file over the commands of another, each scan within the budget.
     Run {
@@ -326,6 +336,7 @@ fn form_of<'a>(alloc: Global, matches: &ArgMatches<'a>) -> Result<Option<Words<'
             None => served_alone(alloc, inner),
         },
         "ask" => asked(alloc, inner),
+        "where" => located(alloc, inner),
         "field" => carried(alloc, inner),
         _ => Ok(worked(name, inner)),
     }
@@ -380,6 +391,30 @@ fn compared<'a>(inner: &ArgMatches<'a>) -> Option<Words<'a>>
         old: inner.get_str("OLD")?,
         new: inner.get_str("NEW")?,
     })
+}
+
+/// The positions that are asked for; none where the place is none.
+fn asked_for(inner: &ArgMatches) -> Option<Asked> {
+    if let Some(position) = inner.get_one::<u32>(POSITION) {
+        return Some(Asked::Position(position as usize));
+    }
+    match inner.get_str(PLACE) {
+        Some(word) => place_at(word),
+        None => Some(Asked::All),
+    }
+}
+
+/// A program of which places are asked for.
+fn located<'a>(alloc: Global, inner: &ArgMatches<'a>) -> Result<Option<Words<'a>>, WordsError>
+    ensures { IfOk result (λ form. IfSome form IsLostAfterAMinute) }
+{
+    let Some(source) = inner.get_str("SOURCE") else {
+        return Ok(None);
+    };
+    match asked_for(inner) {
+        Some(asked) => Ok(Some(Words::Where { source, asked })),
+        None => Err(WordsError::Bad(String::from_str(alloc, NO_PLACE)?)),
+    }
 }
 
 fn run<'a>(inner: &ArgMatches<'a>) -> Option<Words<'a>>

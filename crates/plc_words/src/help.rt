@@ -57,12 +57,15 @@ pub(crate) const COMMANDS: &str = with_source_faults!(
   {\"change\":\"494C50..\"}      goes on with another program, whose image has these bytes, two digits
                              each; variables without a location go on by name and type, instances
                              by name and kind
+  {\"long_change\":\"49..\"}   the same, where the image has more than 32768 bytes, up to 1048576
 
 Answers:
   outputs S ..               scan number S is done: its TRUE bits as QXb.n, its words that aren't 0
                              as QWk=v
   held P                     the scan is held before instruction P
-  stopped WHY P              the scan stopped at instruction P: overflow, zerodivisor or budget
+  stopped WHY P              the scan stopped at instruction P: overflow, zerodivisor or budget;
+                             of a text of units each P has its place behind it, ': X, line L', as
+                             'plc where' has it, unless a command is a change
   value V                    a value, as TRUE, INT#5, DINT#5, LINT#5, T#5ms or REAL#0.5
   done
   refused N                  1 no scan is held, 2 no such instruction, 3 no such name or it can't be
@@ -111,6 +114,19 @@ pub(crate) const DIFFERENCE: &str = with_source_faults!(
   ends      OLD's alone: its value is lost
 So a plant that runs OLD goes on with NEW after 'plc ask --change'. OLD is judged first; before a fault of a
 text the line 'in PATH' says of which one.
+"
+);
+
+pub(crate) const PLACES: &str = with_source_faults!(
+    "A position counts the instructions of the program from 0, as breakpoints, held scans and stops have it; in a text
+of units, whose calls are replaced by what they call, those of all instances. Prints a line for each position:
+  P L:C                   the instruction at position P stands at line L, column C
+  P L:C X                 it stands there in the block of which X is an instance, by its full name
+With AT the lines are those of the instructions at that line, or at that line and column: one for each instance or
+call. Each P of them is one for {\"break\":P}.
+
+'plc: no instruction at AT' is told where none stands there, 'plc: no position P' where the program has fewer, and
+'plc: the source is an image' of an image, of which 'plc list' prints the text.
 "
 );
 
@@ -276,7 +292,7 @@ The status is 0 where each command was done or answered what it asked for, 4 whe
 'refused N', and 5 where an answer began with 'plc: '. Where the console can't be asked:
   plc: commands              COMMANDS is no list of commands; nothing was sent. Before it a line says
                              'no command N', counted from 1, 'no list', or 'no JSON at L:C'
-  plc: change of N bytes     the image of SOURCE has more than 32768 bytes; nothing was sent
+  plc: change of N bytes     the image of SOURCE has more than 1048576 bytes; nothing was sent
   plc: device port P         nobody serves a console at the port
   plc: device socket PATH    nobody serves a console at the socket
   plc: device no answer      another client took it over, or it ended, or gave no answer for S

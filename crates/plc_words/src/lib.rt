@@ -23,6 +23,7 @@ mod forms;
 mod help;
 mod operators;
 mod options;
+mod places;
 mod telling;
 
 pub use console::{AskedConsole, Place};

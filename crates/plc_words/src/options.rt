@@ -87,6 +87,12 @@ pub(crate) const CHANGED: &str = "changed";
 /// The word of the option `--forget`.
 pub(crate) const FORGET: &str = "forget";
 
+/// The word of the option `--position`.
+pub(crate) const POSITION: &str = "position";
+
+/// The word of a place in a text.
+pub(crate) const PLACE: &str = "AT";
+
 /// The word of the option `--listing`.
 pub(crate) const LISTED: &str = "listing";
 
@@ -176,6 +182,17 @@ pub(crate) fn count(word: &'static str, value: &'static str) -> Form {
 /// An option with the number of a port.
 fn numbered_port(word: &'static str) -> Form {
     number(word, "P", 1, MOST_PORT)
+}
+
+/// A place is left out where all positions are asked for, and refused beside one of them.
+pub(crate) fn place() -> Form {
+    Form::new(PLACE, Kind::File)
+        .help("A line, or a line and a column, as 13:5: the positions of what stands there")
+        .refused_beside(&[POSITION])
+}
+
+pub(crate) fn position() -> Form {
+    number(POSITION, "P", 0, 65_535).help("Of this position alone, counted from 0")
 }
 
 pub(crate) fn budget() -> Form {

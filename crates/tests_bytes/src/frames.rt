@@ -164,6 +164,15 @@ fn stream(alloc: Global, text: &str) -> io::Result<String> {
     }
 }
 
+/// How many messages a long stream has, and the fault behind them; it's cut in its middle alone.
+fn long_stream(alloc: Global, text: &str) -> io::Result<String> {
+    let stream = bytes_of(alloc, text)?;
+    if !is_read_as_framed(alloc, stream.as_slice())? {
+        return Err(otherwise());
+    }
+    Ok(told_seen(alloc, seen(alloc, stream.as_slice(), 0)?)?)
+}
+
 /// What is seen of a stream that is read as it should be, wherever it's cut or spoilt.
 fn soundly_seen(alloc: Global, stream: &[u8]) -> Result<Option<Seen>, AllocError> {
     if is_read_as_framed(alloc, stream)? && is_read_when_spoilt(alloc, stream)? {
@@ -207,6 +216,7 @@ fn replaced(alloc: Global, text: &str) -> io::Result<String> {
 pub fn table(alloc: Global, title: &str, cell: &str) -> io::Result<String> {
     match title {
         "stream of frames" => stream(alloc, cell),
+        "long stream of frames" => long_stream(alloc, cell),
         "byte replaced" => replaced(alloc, cell),
         _ => Err(unreadable()),
     }

@@ -1,6 +1,7 @@
 //! The calls of the program, each over slices and vectors.
 
 use crate::given::Given;
+use il_places::Asked;
 use io_model::Counted;
 use plc_tool::Group;
 use std::alloc::Global;
@@ -99,6 +100,15 @@ pub fn named(alloc: Global, text: &[u8]) -> Written {
     let mut out = Counted::new(&mut written.out);
     let mut err = Counted::new(&mut written.err);
     written.status = plc_symbols::names(alloc, text, &mut out, &mut err);
+    written
+}
+
+/// What the places of a text's instructions end with.
+pub fn located(alloc: Global, text: &[u8]) -> Written {
+    let mut written = Written::nothing(alloc);
+    let mut out = Counted::new(&mut written.out);
+    let mut err = Counted::new(&mut written.err);
+    written.status = il_places::locate(alloc, text, Asked::All, &mut out, &mut err);
     written
 }
 

@@ -1,6 +1,6 @@
 //! Reads files of rows, checks by the calls of the program that each row comes out as it says, and prints those that
-//! don't and how many rows each file has. `data/README.md` tells how a row is written. It uses `plc_tool`, `plc_symbols`
-//! and `plc_words`, and no crate uses it.
+//! don't and how many rows each file has. `data/README.md` tells how a row is written. It uses `plc_tool`,
+//! `plc_symbols`, `il_places` and `plc_words`, and no crate uses it.
 #![tactic(auto)]
 
 mod calls;

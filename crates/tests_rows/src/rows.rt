@@ -1,6 +1,6 @@
 //! The rows of a file. A section of a row hands something in, or says what comes out; a table is a row a line.
 
-use crate::calls::{assembled, compared, listed, named, ran, reads_back, simulated};
+use crate::calls::{assembled, compared, listed, located, named, ran, reads_back, simulated};
 use crate::changes;
 use crate::given::Given;
 use crate::notation::{bytes_of, lines_of};
@@ -118,6 +118,7 @@ fn prints(alloc: Global, given: &Given, title: &str, lines: &[u8]) -> bool {
         "report" | "schedule" => reports(alloc, given, lines),
         "asm" => assembles(alloc, given, lines),
         "names" => named(alloc, given.text.as_slice()).is(lines),
+        "places" => located(alloc, given.text.as_slice()).is(lines),
         "difference" => compares(alloc, given, lines),
         _ => lists_as(alloc, given, title, lines),
     }

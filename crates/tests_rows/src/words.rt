@@ -106,6 +106,7 @@ fn of_files(alloc: Global, words: &Words) -> Result<String, AllocError> {
         Words::List { image } => format!(in alloc; "list {image}"),
         Words::Names { source } => format!(in alloc; "names {source}"),
         Words::Diff { old, new } => format!(in alloc; "diff {old}, new {new}"),
+        Words::Where { source, asked } => format!(in alloc; "where {source}, {asked:?}"),
         Words::Run {
             source,
             commands,

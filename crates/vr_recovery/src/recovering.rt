@@ -1,6 +1,6 @@
 //! How a recovery ends.
 
-ghost use Rattle.std.specs.Prelude.{◌≡◌, ◌==◌, ◌≤◌, ◌<◌, [], ◌&&◌, true, false, nat_le, ◌+◌, is_some, Some, IfOk, OnOk};
+ghost use Rattle.std.specs.Prelude.{◌≡◌, ◌==◌, ◌≤◌, ◌<◌, [], ◌&&◌, true, false, is_some, Some, IfOk, OnOk};
 ghost use Rattle.std.specs.Prelude.{OnErr, MatchOption};
 ghost use Rattle.vr_model.specs.Groups.{group_size, how_many};
 ghost use Rattle.vr_model.specs.Choices as choices;
@@ -14,12 +14,14 @@ ghost use Rattle.vr_core.specs.StandsFor.{ResponseStands, own_group};
 ghost use Rattle.vr_core.specs.Checkpoints.{IsOfNone, Drops};
 ghost use Rattle.vr_core.specs.Changes.{IsReadied};
 ghost use Rattle.vr_core.specs.Follows.{Tells, FollowsIfKept, DoesIfKept, receives_from};
+ghost use Rattle.vr_judging.specs.Judging.{told_enough};
 ghost use Rattle.vr_recovery.specs.Responses.{HasState, IsUnfitResponse, kept_of, stays};
 ghost use Rattle.vr_recovery.specs.Recovering.{Recovers};
 
 use crate::responses::{count, is_told, keep, kept, latest, put, put_back, stays_kept};
 use std::alloc::{AllocError, Global};
 use vr_core::{Core, Readied, Response};
+use vr_judging::is_enough;
 use vr_model::{PrimaryState, Sends, Status};
 
 /// RECOVERYRESPONSE with a nonce. It recovers when those of more than half of the group are kept, the latest view among
@@ -113,7 +115,7 @@ fn recover_if_told(core: &mut Core, alloc: Global) -> Result<(), AllocError>
         (Tells core.old (λ w r. is_normal (rules.recovers w.f w.number w.answer r).replica.status) true) }
 {
     let view = latest(core);
-    if !is_enough(core, view) || !is_told(core, view) {
+    if !is_told_enough(core, view) || !is_told(core, view) {
         return Ok(());
     }
     let Some(ready) = ready_for_told(core, alloc, view)? else {
@@ -141,14 +143,13 @@ fn ready_for_told(core: &Core, alloc: Global, view: u64) -> Result<Option<Readie
 }
 
 /// Whether more than half of the group answered, and this view is no earlier than its stored one.
-fn is_enough(core: &Core, view: u64) -> bool
+fn is_told_enough(core: &Core, view: u64) -> bool
     requires { core.now.status ≡ Recovering }
-    ensures told { Tells core.now
-        (λ w r. nat_le (w.f + 1) (how_many (λ s. is_some (r.responses s)) (group_size w.f))
-        && nat_le r.stored_view view) result }
+    ensures told { Tells core.now (λ w r.
+        told_enough w.f (how_many (λ s. is_some (r.responses s)) (group_size w.f)) r.stored_view view) result }
     ensures stored { result ≡ true → core.now.stored_view ≤ view }
 {
-    core.config.f < count(core) && core.stored_view <= view
+    is_enough(core.config.f, count(core), core.stored_view, view)
 }
 
 /// The replica adopts this view, with the log that its primary told.

@@ -1,9 +1,10 @@
 -- The fields of messages: the one spelling of values, cells, commands and answers. All numbers are big-endian.
 use Rattle.std.specs.Prelude.{FitsSigned, ◌≡◌, ℕ, zero, suc, ◌+◌, ◌*◌, ◌^◌, ◌<◌, ◌≤◌, Bool, true, false, ℤ, List, []}
-use Rattle.std.specs.Prelude.{◌∷◌, ◌++◌, length, take, drop, Some}
+use Rattle.std.specs.Prelude.{◌∷◌, ◌++◌, length, take, drop, Some, if◌then◌else◌}
 use Rattle.std.specs.List.{flat_map, AllByRecursion}
 use Rattle.std.specs.Int.{Width, w8, w16, w32, w64, to_be_bytes, cast_unsigned}
 use Rattle.il_model.specs.declared.limits.TheConstants.{BITS, WORDS, MOST_IMAGE_BYTES}
+use Rattle.il_model.specs.Limits.{is_short_image}
 use Rattle.il_values.specs.declared.value.Ty.{Ty}
 use Rattle.il_values.specs.declared.value.Ty.TheVariants as types
 use Rattle.il_values.specs.declared.value.Value.{Value}
@@ -79,7 +80,7 @@ command_tag (commands.Unforce slot) = 6
 command_tag (commands.ReadVar slot) = 7
 command_tag commands.ReadCr = 8
 command_tag commands.Reset = 9
-command_tag (commands.Change image) = 10
+command_tag (commands.Change image) = if is_short_image image then 10 else 12
 command_tag commands.Warm = 11
 
 abbrev pub command_fields : Command → List ℕ
@@ -93,7 +94,8 @@ command_fields (commands.Unforce slot) = to_be_bytes w16 slot.0
 command_fields (commands.ReadVar slot) = to_be_bytes w16 slot.0
 command_fields commands.ReadCr = []
 command_fields commands.Reset = []
-command_fields (commands.Change image) = counted w16 image
+command_fields (commands.Change image) =
+    if is_short_image image then counted w16 image else counted w32 image
 command_fields commands.Warm = []
 
 abbrev pub command_bytes : Command → List ℕ

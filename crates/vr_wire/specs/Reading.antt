@@ -2,8 +2,9 @@
 use Rattle.std.specs.Prelude.{◌≡◌, ℕ, zero, suc, ◌/◌, ◌%◌, ◌==◌, Bool, ℤ, List, [], ◌∷◌, length, take, drop, slice_get}
 use Rattle.std.specs.Prelude.{Option, Some, None, Result, Ok, Err, nat_lt, nat_le, if◌then◌else◌}
 use Rattle.std.specs.List.{flat_map}
-use Rattle.std.specs.Int.{Width, w8, w16, w64, byte_len, from_be_bytes, cast_signed}
-use Rattle.il_model.specs.declared.limits.TheConstants.{WORDS, MOST_IMAGE_BYTES}
+use Rattle.std.specs.Int.{Width, w8, w16, w32, w64, byte_len, from_be_bytes, cast_signed}
+use Rattle.il_model.specs.declared.limits.TheConstants.{WORDS}
+use Rattle.il_model.specs.Limits.{is_short_image, is_long_image}
 use Rattle.il_values.specs.declared.value.Ty.{Ty}
 use Rattle.il_values.specs.declared.value.Value.{Value}
 use Rattle.il_values.specs.declared.value.Stop.{Stop}
@@ -144,11 +145,12 @@ scan_at bytes = fields_2 (λ cells moment. commands.Scan (record { cells = cells
 abbrev pub force_at : Reader Command
 force_at bytes = fields_2 commands.Force slot_at value_at bytes
 
-abbrev pub may_be_image : List ℕ → Bool
-may_be_image bytes = nat_le (length bytes) MOST_IMAGE_BYTES
-
 abbrev pub change_at : Reader Command
-change_at bytes = fields_1 commands.Change (lawful (passed may_be_image) (counted_at (number_at w16))) bytes
+change_at bytes = fields_1 commands.Change (lawful (passed is_short_image) (counted_at (number_at w16))) bytes
+
+-- one that has no shorter spelling
+abbrev pub long_change_at : Reader Command
+long_change_at bytes = fields_1 commands.Change (lawful (passed is_long_image) (counted_at (number_at w32))) bytes
 
 abbrev pub command_readers : List (Reader Command)
 command_readers =
@@ -163,7 +165,8 @@ command_readers =
     fields_0 commands.ReadCr ∷
     fields_0 commands.Reset ∷
     change_at ∷
-    fields_0 commands.Warm ∷ []
+    fields_0 commands.Warm ∷
+    long_change_at ∷ []
 
 abbrev pub command_at : Reader Command
 command_at bytes = tagged command_readers bytes

@@ -1,17 +1,19 @@
 //! Commands, both ways.
 
 ghost use Rattle.std.specs.Prelude.{◌≡◌, ◌≤◌, ◌++◌, length, OnOk, slice_get};
-ghost use Rattle.std.specs.Int.{w16};
-ghost use Rattle.vr_wire.specs.Fields.{counted, command_tag, command_fields, command_bytes, FitsCommand};
-ghost use Rattle.vr_wire.specs.Reading.{Gives, number_at, counted_at, scan_at, force_at, change_at, command_at};
+ghost use Rattle.std.specs.Int.{w16, w32};
+ghost use Rattle.il_model.specs.declared.command.Command.TheVariants as commands;
+ghost use Rattle.vr_wire.specs.Fields.{command_tag, command_fields, command_bytes, FitsCommand};
+ghost use Rattle.vr_wire.specs.Reading.{Gives, number_at, counted_at, scan_at, force_at, change_at};
+ghost use Rattle.vr_wire.specs.Reading.{long_change_at, command_at};
 ghost use Rattle.vr_wire.specs.Reading.{command_readers, read_by, end_of};
 
 use crate::bytes::taken;
 use crate::cells::{cells_at, cells_end, put_cells};
 use crate::fault::ReadError;
-use crate::numbers::{put_u8, put_u16, put_u64, u8_at, u16_at, u64_at};
+use crate::numbers::{put_u8, put_u16, put_u32, put_u64, u8_at, u16_at, u32_at, u64_at};
 use crate::value::{lawful, put_slot, put_value, slot_at, value_at};
-use il_model::{Command, ImageBytes, InImage, MOST_IMAGE_BYTES};
+use il_model::{Command, ImageBytes, InImage, is_long_image, is_short_image};
 use std::alloc::{AllocError, Global};
 
 fn command_tag(command: &Command) -> u8
@@ -28,18 +30,33 @@ fn command_tag(command: &Command) -> u8
         Command::ReadVar(_) => 7,
         Command::ReadCr => 8,
         Command::Reset => 9,
-        Command::Change(_) => 10,
+        Command::Change(image) => change_tag(image),
         Command::Warm => 11,
+    }
+}
+
+/// The tag of a change: an image of more than `SHORT_IMAGE_BYTES` has one of its own.
+fn change_tag(image: &ImageBytes) -> u8
+    ensures { result ≡ command_tag (commands.Change image.now) }
+{
+    if is_short_image(image.as_slice()) {
+        10
+    } else {
+        12
     }
 }
 
 /// The image of a change, behind its length.
 fn put_image(out: &mut Vec<u8>, image: &ImageBytes) -> Result<(), AllocError>
-    ensures text { OnOk result (out.new.items ≡ out.old.items ++ counted w16 image.now) }
-    ensures fits { length image.now ≤ MOST_IMAGE_BYTES }
+    ensures text { OnOk result (out.new.items ≡ out.old.items ++ command_fields (commands.Change image.now)) }
+    ensures fits { FitsCommand (commands.Change image.now) }
 {
     let bytes = image.as_slice();
-    put_u16(out, bytes.len() as u16)?;
+    if is_short_image(bytes) {
+        put_u16(out, bytes.len() as u16)?;
+    } else {
+        put_u32(out, bytes.len() as u32)?;
+    }
     out.extend_from_slice(bytes)
 }
 
@@ -98,11 +115,30 @@ fn counted_at(bytes: &[u8]) -> Result<(&[u8], &[u8]), ReadError>
     taken(usize::from(count), rest)
 }
 
+/// Bytes behind their count, which has 32 bits.
+fn long_counted_at(bytes: &[u8]) -> Result<(&[u8], &[u8]), ReadError>
+    ensures { Gives (λ x. (x.0.now, x.1.now)) result (counted_at (number_at w32) bytes.now) }
+{
+    let (count, rest) = u32_at(bytes)?;
+    taken(count as usize, rest)
+}
+
 fn change_at(alloc: Global, bytes: &[u8]) -> Result<(Command, &[u8]), ReadError>
     ensures { Gives (λ x. (x.0, x.1.now)) result (change_at bytes.now) }
 {
     let (image, rest) = counted_at(bytes)?;
-    if image.len() > MOST_IMAGE_BYTES {
+    if !is_short_image(image) {
+        return Err(ReadError::Malformed);
+    }
+    let image = lawful(ImageBytes::new(Vec::from_slice(alloc, image)?))?;
+    Ok((Command::Change(image), rest))
+}
+
+fn long_change_at(alloc: Global, bytes: &[u8]) -> Result<(Command, &[u8]), ReadError>
+    ensures { Gives (λ x. (x.0, x.1.now)) result (long_change_at bytes.now) }
+{
+    let (image, rest) = long_counted_at(bytes)?;
+    if !is_long_image(image) {
         return Err(ReadError::Malformed);
     }
     let image = lawful(ImageBytes::new(Vec::from_slice(alloc, image)?))?;
@@ -137,6 +173,7 @@ fn fields_at(alloc: Global, tag: u8, bytes: &[u8]) -> Result<(Command, &[u8]), R
         9 => Ok((Command::Reset, bytes)),
         10 => change_at(alloc, bytes),
         11 => Ok((Command::Warm, bytes)),
+        12 => long_change_at(alloc, bytes),
         _ => Err(ReadError::Malformed),
     }
 }
@@ -152,7 +189,17 @@ fn change_end(bytes: &[u8]) -> Result<&[u8], ReadError>
     ensures { Gives (λ rest. rest.now) result (end_of change_at bytes.now) }
 {
     let (image, rest) = counted_at(bytes)?;
-    if image.len() > MOST_IMAGE_BYTES {
+    if !is_short_image(image) {
+        return Err(ReadError::Malformed);
+    }
+    Ok(rest)
+}
+
+fn long_change_end(bytes: &[u8]) -> Result<&[u8], ReadError>
+    ensures { Gives (λ rest. rest.now) result (end_of long_change_at bytes.now) }
+{
+    let (image, rest) = long_counted_at(bytes)?;
+    if !is_long_image(image) {
         return Err(ReadError::Malformed);
     }
     Ok(rest)
@@ -177,6 +224,7 @@ fn fields_end(tag: u8, bytes: &[u8]) -> Result<&[u8], ReadError>
             Ok(rest)
         }
         10 => change_end(bytes),
+        12 => long_change_end(bytes),
         _ => Err(ReadError::Malformed),
     }
 }

@@ -9,8 +9,8 @@ pub loop-i-init : goal.loop-i-init
 unfolding column_behind
 loop-i-init c = record { here = refl; before = λ k lt is. absurd (omega (arith, lt)) }
 
-pub behind-here-requires-clause-column : goal.behind-here-requires-clause-column
-behind-here-requires-clause-column c =
+pub place_behind-here-requires-clause-column : goal.place_behind-here-requires-clause-column
+place_behind-here-requires-clause-column c =
     let before = take c.loop-i.i c.args.text.now in
     let same : c.loop-i.here.column ≡ (place_behind before).column = ap (λ (p : Place). p.column) c.loop-i.invariant.here in
     omega (arith, same, column_small_behind before, length-take c.loop-i.i c.args.text.now)

@@ -1,0 +1,4 @@
+pub mod Names
+pub mod Origins
+pub mod Places
+pub mod Located

@@ -1,0 +1,2 @@
+pub mod LastRequests
+pub mod Noting
