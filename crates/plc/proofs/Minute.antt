@@ -18,6 +18,7 @@ as_asked (words.Asm source image) (outcomes.Serve serving) minute serves = absur
 as_asked (words.List image) (outcomes.Serve serving) minute serves = absurd serves
 as_asked (words.Names source) (outcomes.Serve serving) minute serves = absurd serves
 as_asked (words.Diff old new) (outcomes.Serve serving) minute serves = absurd serves
+as_asked (words.Where source asked) (outcomes.Serve serving) minute serves = absurd serves
 as_asked (words.Run source commands budget) (outcomes.Serve serving) minute serves = absurd serves
 as_asked (words.Sim source schedule config budget) (outcomes.Serve serving) minute serves = absurd serves
 as_asked (words.Format source group machine waits directory) (outcomes.Serve serving) minute serves = absurd serves
