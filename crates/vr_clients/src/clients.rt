@@ -1,11 +1,15 @@
 //! What a replica knows of its clients (the client table of Viewstamped Replication Revisited, section 4).
 
 ghost use Rattle.std.specs.Prelude.{◌≡◌, ◌<◌, ℕ, length, drop, IfOk, replicate, slice_set, slice_get, Some, Option};
+ghost use Rattle.std.specs.Prelude.{true, false};
 ghost use Rattle.vr_model.specs.declared.log.Executed as model;
 ghost use Rattle.vr_model.specs.Groups.{client_count};
+ghost use Rattle.vr_model.specs.Logs.{is_above};
+ghost use Rattle.vr_model.specs.Choices.{is_same};
 ghost use Rattle.vr_model.specs.StandsFor.{requests_of};
 ghost use Rattle.vr_clients.specs.Clients.{no_client, client_at, noted, answered, only_executed, restored, KnowsMore};
 ghost use Rattle.vr_clients.specs.Clients.{answers_of};
+ghost use Rattle.vr_clients.specs.declared.clients.Turn.TheVariants.{Earlier, Again, Next};
 
 use il_model::Answer;
 use std::alloc::{AllocError, Global};
@@ -19,6 +23,33 @@ pub struct Client {
     pub last_number: Option<u64>,
     /// Of those that were executed, the one with the greatest number.
     pub executed: Option<Executed>,
+}
+
+/// How a request stands to the last one of its client in the log.
+#[derive(Clone, Copy, PartialEq, Eq)]
+pub enum Turn {
+    /// Its number is below.
+    Earlier,
+    /// It's that one.
+    Again,
+    /// Its number is above, or there's none.
+    Next,
+}
+
+impl Client {
+    /// How a request of this number stands to the client's last one.
+    pub fn turn(&self, number: u64) -> Turn
+        ensures earlier { result ≡ Earlier → (is_above number self.now.last_number ≡ false)
+            × (is_same number self.now.last_number ≡ false) }
+        ensures again { result ≡ Again → self.now.last_number ≡ Some number }
+        ensures next { result ≡ Next → is_above number self.now.last_number ≡ true }
+    {
+        match self.last_number {
+            Some(last) if number < last => Turn::Earlier,
+            Some(last) if number == last => Turn::Again,
+            _ => Turn::Next,
+        }
+    }
 }
 
 /// What a replica knows of each client.

@@ -16,4 +16,4 @@
 
 mod clients;
 
-pub use clients::{Client, ClientTable};
+pub use clients::{Client, ClientTable, Turn};
