@@ -5,17 +5,19 @@
 //! names, a warm start keeps what is retained, and a snapshot tells its instances. It uses il_model, where programs and
 //! their types are defined, and ctl_blocks, where the blocks' equations are.
 //!
-//! There is no code to call. A law is used by naming it in a function whose clause rests on it:
+//! A law is used by naming it in a function whose clause rests on it. Of code there is what an opening parenthesis keeps:
 //!
 //! ```rust
 //! ctl_model::ends_the_same();
+//! let (kept, first) = opened(Op::And, true, cr, Some(operand)); // ANDN( with an operand: N stays with the operator
 //! ```
 //!
 //! Proved: the seven laws, for every program, state, budget and list of commands. Worked sessions are computed from the
 //! table of commands as proofs in `ctl_debugger` (`proofs/WorkedRows`), so that the definitions themselves were seen to
 //! give what was wanted.
 //!
-//! No test is needed here.
+//! An N that negates the first operand of a parenthesis alone is refused here (`negates_first_operand_only`). No test is
+//! needed.
 #![tactic(auto)]
 
 ghost use Rattle.std.specs.Prelude.{◌≡◌, ℕ, Bool, List};
@@ -37,9 +39,11 @@ ghost use Rattle.ctl_model.specs.Snapshots.{AreKnown};
 use ctl_blocks::words_tell_a_block;
 
 mod forces;
+mod opening;
 mod phase;
 
 pub use forces::{Forces, Mask};
+pub use opening::opened;
 pub use phase::{Phase, ScanOut};
 
 /// A typed program is never stuck: in a state that suits it each step finds the values, the current result, the
