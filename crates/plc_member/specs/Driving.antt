@@ -1,32 +1,23 @@
 -- What the driver of a machine does in a turn, and what the trace of the machine is told.
 use Rattle.std.specs.Prelude.{◌≡◌, ◌⊎◌, ◌++◌, ◌∷◌, [], List, Option, Some, None, ℕ, Bool, ◌==◌, ◌&&◌, ◌||◌, nat_lt}
-use Rattle.std.specs.Prelude.{nat_le, not, true, false, if◌then◌else◌}
-use Rattle.std.specs.Duration.{as_nanos}
+use Rattle.std.specs.Prelude.{nat_le, if◌then◌else◌}
 use Rattle.std.specs.declared.time.Duration.{Duration}
 use Rattle.il_model.specs.declared.command.Command.{Command}
 use Rattle.il_model.specs.declared.command.Answer.{Answer}
-use Rattle.il_model.specs.declared.cells.InImage.{InImage}
-use Rattle.vr_model.specs.declared.message.Message.{Message}
 use Rattle.vr_model.specs.Messages.{Body, Reply}
-use Rattle.io_image.specs.declared.release.Release.{Release}
+use Rattle.vr_model.specs.declared.message.Message.{Message}
 use Rattle.io_image.specs.Book.{Book}
+use Rattle.io_image.specs.declared.release.Release.{Release}
 use Rattle.plc_machine.specs.declared.driver.MachineDriver.{MachineDriver}
-use Rattle.plc_machine.specs.Driving.{Looks, SubmitsScan}
-use Rattle.plc_machine.specs.Leading.{later_by}
-use Rattle.plc_machine.specs.declared.leading.Course.{Course}
-use Rattle.plc_machine.specs.declared.leading.Course.TheVariants.{StandingBy, Leading}
-use Rattle.plc_machine.specs.declared.leading.LastScan.{LastScan}
+use Rattle.plc_machine.specs.Driving.{SubmitsScan}
+use Rattle.plc_node_core.specs.declared.scan_client.Answered.{Answered}
+use Rattle.plc_node_core.specs.declared.scan_client.Answered.TheVariants as answers
 use Rattle.plc_trace.specs.declared.line.Placed.{Placed}
 use Rattle.plc_trace.specs.declared.line.Traced.{Traced}
 use Rattle.plc_trace.specs.declared.trace.Trace.{Trace}
 use Rattle.plc_trace.specs.Tracing.{IsPut}
 use Rattle.plc_member.specs.declared.looked.Looked.{Looked}
 use Rattle.plc_member.specs.declared.scans.Entered.{Entered}
-
--- what is released was published, and nothing else
-abbrev pub Publishes : Option Release → List Release → List Release → Type 0
-Publishes None old new = new ≡ old
-Publishes (Some release) old new = new ≡ old ++ release ∷ []
 
 -- the scan of some cells was submitted, as of a machine that leads and for which one was due at some time
 pub record HasScanned (a b : MachineDriver) : Type 0 where
@@ -40,45 +31,16 @@ pub record HasScanned (a b : MachineDriver) : Type 0 where
 abbrev pub MayScan : MachineDriver → MachineDriver → Type 0
 MayScan a b = (b ≡ a) ⊎ HasScanned a b
 
--- of a machine that leads one is due
-abbrev pub is_due_at : Course → Duration → Bool
-is_due_at StandingBy now = false
-is_due_at (Leading lead) now = nat_le (as_nanos lead.due) (as_nanos now)
+-- what is released was published, and nothing else
+abbrev pub Publishes : Option Release → List Release → List Release → Type 0
+Publishes None old new = new ≡ old
+Publishes (Some release) old new = new ≡ old ++ release ∷ []
 
--- or was due a period ago, or longer
-abbrev pub is_late_at : Course → Duration → Duration → Bool
-is_late_at StandingBy period now = false
-is_late_at (Leading lead) period now = nat_le (later_by (as_nanos lead.due) (as_nanos period)) (as_nanos now)
-
--- ---- a machine that begins to lead
-
--- the view that it leads, if it leads
-abbrev pub led_in : Course → Option ℕ
-led_in StandingBy = None
-led_in (Leading lead) = Some lead.view
-
--- its replica leads this view, if one, and the machine led another one, or none
-abbrev pub begins_to_lead : Option ℕ → Option ℕ → Bool
-begins_to_lead None before = false
-begins_to_lead (Some view) None = true
-begins_to_lead (Some view) (Some led) = not (view == led)
-
--- it followed what its replica showed, and neither submitted a scan nor took a reply
-pub record HasLooked (a b : MachineDriver) : Type 0 where
-  pub leads : Option ℕ
-  pub last : Option LastScan
-  pub now : Duration
-  pub looks : Looks leads last now a b
-
--- The inputs that its stage is still to get are those that it was to get before, or were put down where it begins to
--- lead, where nothing is shown.
-abbrev pub AreInherited : Option InImage → Option InImage → MachineDriver → Type 0
-AreInherited old new driver = (new ≡ old) ⊎ (driver.shown ≡ None)
-
--- a machine whose stage is still to get inputs only looked, and shows nothing
-abbrev pub WaitsForInputs : Option InImage → MachineDriver → MachineDriver → Bool → Type 0
-WaitsForInputs None a b shows = Unit {0}
-WaitsForInputs (Some inputs) a b shows = HasLooked a b × (shows ≡ false)
+-- what a message releases, by what a node makes of it
+abbrev pub released_in : Answered → Option Release
+released_in (answers.Released release) = Some release
+released_in (answers.Held shows) = None
+released_in answers.Nothing = None
 
 -- ---- whether what was known of a log's last scan still holds, where no entry that is kept is a scan
 

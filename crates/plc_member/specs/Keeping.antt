@@ -16,6 +16,10 @@ use Rattle.plc_status.specs.declared.notice.Notice.TheVariants as notices
 use Rattle.plc_status.specs.declared.group.GroupNotice.TheVariants as groups
 use Rattle.plc_host.specs.declared.failed.Failed.TheVariants as failures
 use Rattle.plc_host.specs.declared.failed.Failed.{Failed}
+use Rattle.plc_node_core.specs.declared.ending.Ending.{Ending}
+use Rattle.plc_node_core.specs.declared.ending.Ending.TheVariants as endings
+use Rattle.plc_node_core.specs.declared.ending.Failure.{Failure}
+use Rattle.plc_node_core.specs.declared.ending.Failure.TheVariants as causes
 use Rattle.plc_member.specs.declared.drive.Parting.{Parting}
 use Rattle.plc_member.specs.declared.drive.Parting.TheVariants as partings
 use Rattle.plc_store.specs.declared.judging.Start.{Start}
@@ -53,10 +57,19 @@ staying_by (steps.FarAbove epoch) from = Some (notices.Group (groups.EpochFarAbo
 staying_by (steps.OtherProgram epoch) from = Some (notices.OtherProgram epoch.number)
 staying_by step from = None
 
--- a machine leaves its epoch only behind its replica's end; where that doesn't come its store has failed
-abbrev pub leaves_behind : Kept → Bool → ℕ → Parting
-leaves_behind kept true number = partings.Leaves kept
-leaves_behind kept false number = partings.Failed (failures.Store number)
+-- why a machine can't go on whose node can't
+abbrev pub failed_of : Failure → ℕ → Failed
+failed_of causes.Store number = failures.Store number
+failed_of causes.Thread number = failures.Thread
+failed_of causes.Memory number = failures.Memory
+failed_of causes.NumbersUsedUp number = failures.Device
+
+-- how a machine's driver ends whose node ends so: it leaves its epoch only with what its store is to have
+abbrev pub parting_of : Ending → Option Kept → ℕ → Parting
+parting_of endings.Stopped kept number = partings.Stopped
+parting_of (endings.Failed failure) kept number = partings.Failed (failed_of failure number)
+parting_of endings.Leaves (Some kept) number = partings.Leaves kept
+parting_of endings.Leaves None number = partings.Failed (failures.Store number)
 
 -- A life whose epoch was begun has its replica started as new exactly where that was judged to be its first start; one
 -- whose epoch wasn't waits until it may be.
@@ -72,14 +85,6 @@ way_of (keeps.Entered epoch) start = ways.Waits
 abbrev pub kept_by : Entry → Kept
 kept_by (entries.Left left) = left.kept
 kept_by (entries.Begins epoch) = keeps.Begun epoch
-
--- A machine can't go on whose replica's store has failed, or that couldn't keep what it has to; nor one whose replica's
--- thread is at its end.
-abbrev pub fault_of : Bool → Bool → Bool → ℕ → Option Failed
-fault_of true is_dead is_over number = Some (failures.Store number)
-fault_of false true is_over number = Some (failures.Store number)
-fault_of false false true number = Some failures.Thread
-fault_of false false false number = None
 
 -- what a machine that has begun no epoch waits for, where that may take a person: for an epoch above one that others
 -- are in, and for a store with the program of its epoch

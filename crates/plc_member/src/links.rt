@@ -3,7 +3,6 @@
 ghost use Rattle.std.specs.Prelude.{◌≡◌, IfOk};
 ghost use Rattle.plc_member.specs.Keeping.{IsToldBy, hello_of};
 
-use crate::requester::LONGEST_WAIT;
 use net_hello::Epoch;
 use net_peers::{Exchange, Machine, PeerLink, Pulse, machine_links};
 use plc_epochs::Greeting;
@@ -14,6 +13,9 @@ use std::alloc::{AllocError, Global};
 use std::net::{Net, SocketAddr, TcpListener, TcpStream};
 use std::sync::Arc;
 use std::time::Duration;
+
+/// In milliseconds, the longest that a receive waits.
+const LONGEST_WAIT: u64 = 5;
 
 /// The links of a machine's own parties, and what they share.
 #[derive(Drop)]

@@ -13,7 +13,7 @@ use crate::program::{Marks, ProgramWatch};
 use il_model::{Command, InImage};
 use plc_console::SnapshotBoard;
 use plc_host::Host;
-use plc_machine::LastScan;
+use plc_machine::{LastScan, SeenScan as LastSeen};
 use std::sync::{Arc, Mutex, Wait};
 use std::time::{Clock, Duration, Instant};
 use vr_model::{Request, Standing};
@@ -32,11 +32,10 @@ pub(crate) struct Entered {
     pub(crate) view: u64,
 }
 
-/// The last scan of a log: its inputs, its moment, when it came in, and where it stands, if that is known.
+/// The last scan of a log, and where it stands, if that is known.
 #[derive(Clone, Copy)]
 pub(crate) struct SeenScan {
-    pub(crate) last: LastScan,
-    pub(crate) inputs: InImage,
+    pub(crate) scan: LastSeen,
     pub(crate) entered: Option<Entered>,
 }
 
@@ -163,12 +162,8 @@ impl<R: Wait + Clock + Copy + Drop, M: Marks + Drop> ScanGate<R, M> {
         if let Ok(now) = Instant::now(&self.host.rt) {
             let came = now.saturating_duration_since(self.begun);
             let last = LastScan { moment, came };
-            let seen = SeenScan {
-                last,
-                inputs,
-                entered,
-            };
-            self.board.put(&self.host.rt, seen);
+            let scan = LastSeen { last, inputs };
+            self.board.put(&self.host.rt, SeenScan { scan, entered });
         }
     }
 

@@ -11,23 +11,22 @@ use crate::port::Port;
 use crate::program::Marks;
 use crate::publisher::Publisher;
 use crate::receiving::Receives;
-use crate::requester::Requester;
 use crate::services::Beside;
 use crate::starting::{Running, started};
 use crate::stop::Stop;
 use crate::teller::{Submitted, Teller, ToTell};
 use crate::tracer::Tracer;
-use crate::tries::Tries;
 use io_image::{Naming, NewList, Pen, ReleasedReader, SharedPen, Stage, Stamp, released};
 use io_model::CountedWrite;
 use modbus_server::{Seats, Shown};
+use net_peers::PeerLink;
 use plc_group::Group;
 use plc_host::{Failed, Host};
 use plc_listener::DoorRuntime;
 use plc_machine::{MachineDriver, Pace, client_starts};
+use plc_node_core::{Node, Role, ScanClient};
 use plc_page::Showing;
 use plc_status::{Journal, Journals, Notice, Printer, StatusWriter};
-use std::alloc::Global;
 use std::net::SocketAddr;
 use std::rt::Files;
 use std::sync::Arc;
@@ -261,7 +260,8 @@ struct Parts<R: MachineRuntime, J: Naming, P: Pen<J> + Drop> {
 /// What the driver of a machine does its work by, apart from what it looks at and publishes to.
 #[derive(Drop)]
 struct Hands<R: MachineRuntime> {
-    requester: Requester<R>,
+    node: Node,
+    link: PeerLink<R>,
     teller: Teller,
     tracer: Tracer,
     keeper: Keeper<R>,
@@ -274,7 +274,6 @@ impl<R: MachineRuntime> Surroundings<R> {
     /// this status.
     fn into_hands(
         self,
-        alloc: Global,
         period: Duration,
         driver: MachineDriver,
         journal: Journal,
@@ -297,14 +296,8 @@ impl<R: MachineRuntime> Surroundings<R> {
             exchange,
         };
         Hands {
-            requester: Requester {
-                alloc,
-                number,
-                period,
-                driver,
-                link,
-                sent: millis(0),
-            },
+            node: Node::new(Role::new(ScanClient::new(number, period, driver))),
+            link,
             teller: Teller::new(told, journal, status),
             tracer: Tracer {
                 number,
@@ -342,11 +335,14 @@ impl<R: MachineRuntime, J: Naming, P: Pen<J> + Drop> Parts<R, J, P> {
             thread,
         } = running;
         let begun = around.keeper.begun;
-        let hands = around.into_hands(host.alloc, period, driver, journal, status);
+        let number = around.number();
+        let hands = around.into_hands(period, driver, journal, status);
         let drive = Drive {
             host,
             begun,
-            requester: hands.requester,
+            number,
+            node: hands.node,
+            link: hands.link,
             solo,
             keeper: hands.keeper,
             board: boards.scans,
@@ -356,8 +352,7 @@ impl<R: MachineRuntime, J: Naming, P: Pen<J> + Drop> Parts<R, J, P> {
             teller: hands.teller,
             tracer: hands.tracer,
             submitted: Submitted::at_the_start(begun),
-            inherited: None,
-            tries: Tries::none(),
+            kept: None,
             receives: Receives::new(),
             signals: boards.signals,
             stop: hands.stop,
