@@ -1,10 +1,8 @@
 -- When a life of a machine ends for another epoch, and what is told of it.
-use Rattle.std.specs.Prelude.{◌≡◌, ◌==◌, ℕ, ◌-◌, nat_le, Bool, true, false, not, ◌&&◌, List, bytes_eq, replicate}
+use Rattle.std.specs.Prelude.{◌≡◌, ℕ, ◌-◌, nat_le, Bool, true, false, not, ◌&&◌, List, bytes_eq, replicate}
 use Rattle.std.specs.Prelude.{take, Option, Some, None}
 use Rattle.std.specs.Prelude.{if◌then◌else◌}
 use Rattle.net_hello.specs.declared.hello.Epoch.{Epoch}
-use Rattle.plc_epochs.specs.declared.cold_start.Step.{Step}
-use Rattle.plc_epochs.specs.declared.cold_start.Step.TheVariants as steps
 use Rattle.plc_epochs.specs.declared.cold_start.Greeting.{Greeting}
 use Rattle.plc_epochs.specs.declared.cold_start.Greeting.TheVariants as greetings
 use Rattle.plc_epochs.specs.declared.kept.Kept.{Kept}
@@ -16,6 +14,11 @@ use Rattle.plc_status.specs.declared.notice.Notice.TheVariants as notices
 use Rattle.plc_status.specs.declared.group.GroupNotice.TheVariants as groups
 use Rattle.plc_host.specs.declared.failed.Failed.TheVariants as failures
 use Rattle.plc_host.specs.declared.failed.Failed.{Failed}
+use Rattle.plc_host_core.specs.declared.epoch_keeper.EpochAction.{EpochAction}
+use Rattle.plc_host_core.specs.declared.epoch_keeper.EpochAction.TheVariants as actions
+use Rattle.plc_host_core.specs.declared.epoch_keeper.EpochNotice.TheVariants as tells
+use Rattle.plc_host_core.specs.declared.epoch_keeper.LifeEnd.{LifeEnd}
+use Rattle.plc_host_core.specs.declared.epoch_keeper.LifeEnd.TheVariants as ends
 use Rattle.plc_node_core.specs.declared.ending.Ending.{Ending}
 use Rattle.plc_node_core.specs.declared.ending.Ending.TheVariants as endings
 use Rattle.plc_node_core.specs.declared.ending.Failure.{Failure}
@@ -33,29 +36,31 @@ use Rattle.plc_store.specs.declared.header.Header.{Header}
 use Rattle.plc_member.specs.declared.keeper.Heard.{Heard}
 use Rattle.plc_member.specs.declared.keeper.Leaving.{Leaving}
 
-abbrev pub leaving_with : Kept → Option Notice → Option Leaving
-leaving_with kept notice = Some (record { kept = kept; notice = notice })
+-- What is told of a life that is over: in which epoch its group begins anew, or which later one was heard of. One that
+-- waits above an epoch is told of by its next life.
+abbrev pub end_notice : LifeEnd → Kept → Heard → Option Notice
+end_notice ends.EpochEnded (keeps.Entered epoch) heard = Some (notices.ColdStart heard.f epoch.number)
+end_notice ends.LaterHeard (keeps.Entered epoch) heard =
+    Some (notices.EpochHeard epoch.number heard.from heard.normal_in)
+end_notice why kept heard = None
 
--- by a step: where its epoch can't go on, where another machine is in a later one, and where it's to wait above one; by
--- no other. The store is to have what the protocol says then
-abbrev pub leaving_by : Step → Kept → Heard → Option Leaving
-leaving_by (steps.Ends epoch) kept heard = leaving_with kept (Some (notices.ColdStart heard.f epoch.number))
-leaving_by (steps.Hears epoch) kept heard =
-    leaving_with kept (Some (notices.EpochHeard epoch.number heard.from heard.normal_in))
-leaving_by (steps.WaitsAbove epoch) kept heard = leaving_with kept None
-leaving_by step kept heard = None
+-- it ends where that is to be done about epochs, with what the store is to have then, and by nothing else
+abbrev pub leaving_by : EpochAction → Heard → Option Leaving
+leaving_by (actions.Leaves why kept) heard = Some (record { kept = kept; notice = end_notice why kept heard })
+leaving_by action heard = None
 
 -- the first eight bytes of the sum of its image
 abbrev pub program_of : Epoch → List ℕ
 program_of epoch = take 8 epoch.image
 
 -- a machine that stays where it is tells why: it goes on with its group, or following the other takes a person
-abbrev pub staying_by : Step → ℕ → Option Notice
-staying_by (steps.Refuses epoch) from =
+abbrev pub staying_by : EpochAction → ℕ → Option Notice
+staying_by (actions.Tells (tells.Refused epoch)) from =
     Some (notices.Group (groups.EpochRefused epoch.number from (program_of epoch)))
-staying_by (steps.FarAbove epoch) from = Some (notices.Group (groups.EpochFarAbove epoch.number from))
-staying_by (steps.OtherProgram epoch) from = Some (notices.OtherProgram epoch.number)
-staying_by step from = None
+staying_by (actions.Tells (tells.FarAbove epoch)) from =
+    Some (notices.Group (groups.EpochFarAbove epoch.number from))
+staying_by (actions.Tells (tells.OtherProgram epoch)) from = Some (notices.OtherProgram epoch.number)
+staying_by action from = None
 
 -- why a machine can't go on whose node can't
 abbrev pub failed_of : Failure → ℕ → Failed
@@ -119,7 +124,3 @@ abbrev pub IsToldBy : Header → Epoch → ℕ → Machine → Type 0
 IsToldBy header epoch starts machine = (machine.identity ≡ header.identity) × (machine.number ≡ header.machine)
     × (machine.store ≡ header.store) × (machine.seen ≡ header.seen)
     × (machine.epoch ≡ epoch) × (machine.starts ≡ starts)
-
--- no epoch has number 0: who says it has lost its disk
-abbrev pub is_epoch : Epoch → Bool
-is_epoch epoch = not (epoch.number == 0)

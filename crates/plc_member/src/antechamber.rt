@@ -172,7 +172,7 @@ impl Antechamber {
     /// Notes what its machine waits for that may take a person: an epoch above one that others are in, or a store with
     /// the program of its epoch.
     fn note_origin<R: MachineRuntime>(&mut self, life: &Life<R>) {
-        let kept = life.keeper.cold_start.kept();
+        let kept = life.keeper.epochs.cold_start().kept();
         let number = life.keeper.speaker.number;
         let program = life.origin.header.program;
         note(waited_for(kept, &program, number), &mut self.journal);
@@ -186,15 +186,12 @@ impl Antechamber {
         }
         let is_first = self.told.is_none();
         self.told = Some(now);
-        let Some(waits) = keeper.cold_start.waits_for() else {
+        let cold_start = keeper.epochs.cold_start();
+        let Some(waits) = cold_start.waits_for() else {
             return;
         };
         let notice = notice_of_wait(waits, keeper.terms.f.saturating_mul(2));
-        if let (true, Some(_), Kept::Entered(epoch)) = (
-            is_first,
-            notice,
-            keeper.cold_start.kept(),
-        ) {
+        if let (true, Some(_), Kept::Entered(epoch)) = (is_first, notice, cold_start.kept()) {
             self.journal.put(Notice::WaitsForOthers(epoch.number));
         }
         note(notice, &mut self.journal);

@@ -40,7 +40,7 @@ where
         let others_recover = self.others_recover(looked);
         waits_by_hand(
             self.terms.is_automatic,
-            self.cold_start.recovers(),
+            self.epochs.cold_start().recovers(),
             others_recover,
         )
     }

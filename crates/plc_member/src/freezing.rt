@@ -4,10 +4,10 @@ ghost use Rattle.std.specs.Prelude.{◌≡◌};
 ghost use Rattle.plc_member.specs.Holding.{link_order, may_freeze, stays_held};
 
 use crate::held_link::HeldLink;
-use crate::keeper::{Keeper, Leaving, Thaw};
-use net_hello::Epoch;
-use plc_epochs::{Moment, Step, Visit};
+use crate::keeper::{Keeper, Leaving, Thaw, leaving_by};
+use plc_epochs::{Moment, Visit};
 use plc_host::ServiceRuntime;
+use plc_host_core::{EpochAction, EpochNotice};
 use std::net::{Net, TcpListener, TcpStream};
 use std::thread;
 use std::time::Duration;
@@ -29,12 +29,12 @@ pub(crate) enum LinkOrder {
     Stay,
 }
 
-/// What is done with the link by this step of the protocol, where answers may be taken, or not.
-fn link_order(step: Step, takes_answers: bool) -> LinkOrder
-    ensures { result ≡ link_order step takes_answers }
+/// What is done with the link where this is to be done about epochs, and answers may be taken, or not.
+fn link_order(action: EpochAction, takes_answers: bool) -> LinkOrder
+    ensures { result ≡ link_order action takes_answers }
 {
-    match step {
-        Step::Thaws(_) => LinkOrder::Thaw,
+    match action {
+        EpochAction::Thaws(_) => LinkOrder::Thaw,
         _ if takes_answers => LinkOrder::LetGo,
         _ => LinkOrder::Stay,
     }
@@ -73,7 +73,7 @@ where
         let now = self.due()?;
         self.probe(now);
         let words = self.words();
-        let epoch = self.cold_start.speaks_in()?;
+        let epoch = self.epochs.cold_start().speaks_in()?;
         // Before the hellos: they say whether its group goes on.
         self.note_recoveries(&epoch, now);
         self.note_signs(&epoch, now);
@@ -81,13 +81,13 @@ where
             return Some(leaving);
         }
         // Who takes part, asks nobody and answers nobody.
-        if !self.cold_start.recovers() {
+        if !self.epochs.cold_start().recovers() {
             return None;
         }
         if !self.has_thawed(solo) {
             return None;
         }
-        self.recover(solo, &epoch, words, now)
+        self.recover(solo, words, now)
     }
 
     /// Whether its replica recovers under the nonce under which it's to, and has done so since its link was let go.
@@ -116,24 +116,22 @@ where
     fn recover(
         &mut self,
         solo: &mut Solo<HeldLink<R>>,
-        epoch: &Epoch,
         words: Vec<Visit>,
         now: Moment,
     ) -> Option<Leaving> {
-        let is_frozen = !self.cold_start.takes_answers();
-        if !is_frozen && !self.is_held(solo, &words, now) {
+        if !self.epochs.is_frozen() && !self.is_held(solo, &words, now) {
             return None;
         }
         if let Some(leaving) = self.hear_words(words, now) {
             return Some(leaving);
         }
-        let step = self.cold_start.look(now);
-        match link_order(step, self.cold_start.takes_answers()) {
+        let action = self.epochs.look(now);
+        match link_order(action, self.epochs.cold_start().takes_answers()) {
             LinkOrder::Thaw => self.thaw = Thaw::Wanted,
             LinkOrder::LetGo => self.terms.hold.let_go(),
             LinkOrder::Stay => {}
         }
-        self.ask(epoch, now);
+        self.ask(now);
         None
     }
 
@@ -141,7 +139,7 @@ where
     /// came before is under way in its replica then.
     fn is_held(&mut self, solo: &mut Solo<HeldLink<R>>, words: &Vec<Visit>, now: Moment) -> bool {
         if has_recovered(solo.look()) {
-            self.cold_start.recovered();
+            self.epochs.recovered();
             return false;
         }
         let others_recover = self.others_recover(now);
@@ -174,18 +172,16 @@ where
         for visit in words {
             let heard = self.heard_from(visit.from);
             match self
-                .cold_start
+                .epochs
                 .hear_word(visit.from, &visit.epoch, &visit.word, now)
             {
-                Step::Freezes(word) | Step::Confirms(word) | Step::Declines(word) => {
+                EpochAction::Answers(word) => {
                     let connected = self.terms.exchange.reached();
                     self.speaker.say(connected, visit.from, visit.epoch, word);
                 }
-                // What it asks now is said at once.
-                Step::AsksAgain => self.asked = None,
-                Step::HearsMarked => self.hear_marked(&visit.epoch),
-                step => {
-                    if let Some(leaving) = self.leaving(step, heard) {
+                EpochAction::Tells(EpochNotice::Marked) => self.hear_marked(&visit.epoch),
+                action => {
+                    if let Some(leaving) = leaving_by(action, heard) {
                         return Some(leaving);
                     }
                 }

@@ -1,15 +1,16 @@
 //! The link of a machine's own replica, which can be held: while it is, no answer to its RECOVERY reaches the replica.
 
 ghost use Rattle.std.specs.Prelude.{◌≡◌, None};
-ghost use Rattle.plc_member.specs.Holding.{is_answer, let_through, recovering_in};
+ghost use Rattle.plc_member.specs.Holding.{let_through};
 
 use net_peers::{PeerCutter, PeerLink};
+use plc_host_core::{is_answer, recovering_in};
 use std::alloc::AllocError;
 use std::net::{Net, TcpListener, TcpStream};
 use std::sync::atomic::{AtomicBool, AtomicU64, Ordering};
 use std::sync::{Arc, Wait};
 use std::time::Clock;
-use vr_model::{Body, Message, Party};
+use vr_model::Message;
 use vr_ports::{Input, Link, Relink, Unlinked};
 
 /// Holds the link of a replica, from another thread than its own.
@@ -32,13 +33,6 @@ pub(crate) struct Hold {
 #[derive(Clone, Copy, Debug)]
 pub(crate) struct DeadLink(());
 
-/// Whether a message is an answer to a RECOVERY.
-fn is_answer(message: &Message) -> bool
-    ensures { result ≡ is_answer message.now }
-{
-    matches!(message.body, Body::RecoveryResponse { .. })
-}
-
 /// What is given of a message that came. No answer that comes while the link is held reaches the replica: it's lost.
 fn let_through(message: Message, is_held: bool) -> Input
     ensures { result ≡ let_through message is_held }
@@ -47,16 +41,6 @@ fn let_through(message: Message, is_held: bool) -> Input
         Input::Nothing
     } else {
         Input::Message(message)
-    }
-}
-
-/// The replica whose RECOVERY a message is, if it's one.
-fn recovering_in(message: &Message) -> Option<u8>
-    ensures { result ≡ recovering_in message.now }
-{
-    match (&message.body, message.from) {
-        (Body::Recovery { .. }, Party::Replica(number)) => Some(number),
-        _ => None,
     }
 }
 

@@ -2,15 +2,16 @@
 //! to be said, and tells when its life is to end.
 
 ghost use Rattle.std.specs.Prelude.{◌≡◌, IfSome, IsTrue, bytes_eq};
-ghost use Rattle.plc_member.specs.Keeping.{is_epoch, leaving_by, program_of, staying_by};
+ghost use Rattle.plc_member.specs.Keeping.{end_notice, leaving_by, program_of, staying_by};
 
 use crate::held_link::Hold;
 use crate::prober::Prober;
 use crate::speaker::Speaker;
 use net_hello::Epoch;
 use net_peers::{Exchange, Machine};
-use plc_epochs::{ColdStart, Kept, Moment, RECENT, Step, Told, Visit};
+use plc_epochs::{ColdStart, Kept, Moment, RECENT, Told, Visit};
 use plc_host::{Host, ServiceRuntime};
+use plc_host_core::{EpochAction, EpochKeeper, EpochNotice, LifeEnd, Question};
 use plc_status::{GroupNotice, Notice};
 use std::net::{Net, SocketAddr, TcpListener, TcpStream};
 use std::sync::Arc;
@@ -20,9 +21,6 @@ use vr_model::MOST_REPLICAS;
 
 /// In milliseconds: so often it looks at what came.
 const POLL: Moment = 50;
-
-/// In milliseconds: so often it says again what it asks.
-const ASKING: Moment = 100;
 
 /// How a life is to end: what the store is to have, and what is told of it.
 #[derive(Clone, Copy)]
@@ -58,7 +56,8 @@ where
     pub(crate) host: Host<R>,
     /// Since when its moments are told: its life began then.
     pub(crate) begun: Instant,
-    pub(crate) cold_start: ColdStart,
+    /// What decides what it does.
+    pub(crate) epochs: EpochKeeper,
     pub(crate) terms: Terms,
     pub(crate) speaker: Speaker<R>,
     /// When a RECOVERY of each other came last.
@@ -66,8 +65,6 @@ where
     pub(crate) thaw: Thaw,
     /// When it looked last.
     pub(crate) looked: Option<Moment>,
-    /// When it said last what it asks.
-    pub(crate) asked: Option<Moment>,
     pub(crate) prober: Prober,
     /// What is to be told, the earliest first.
     pub(crate) untold: Vec<Notice>,
@@ -96,23 +93,36 @@ fn is_past(then: Option<Moment>, now: Moment, pause: Moment) -> bool {
     }
 }
 
-/// What becomes of a life by a step of a machine of a group of 2f+1, if its store is to have another epoch: the machine
-/// was normal in an epoch before, if in any, and heard this of another.
-fn leaving_by(step: Step, kept: Kept, heard: Heard) -> Option<Leaving>
-    ensures { result ≡ leaving_by step kept heard }
+/// What is told of a life that is over for this, and whose store is to have this: the machine was normal in an epoch
+/// before, if in any, and heard this of another.
+fn end_notice(why: LifeEnd, kept: Kept, heard: Heard) -> Option<Notice>
+    ensures { result ≡ end_notice why kept heard }
 {
-    let notice = match step {
-        Step::Ends(epoch) => Some(Notice::ColdStart(heard.f, epoch.number)),
-        Step::Hears(epoch) => Some(Notice::EpochHeard {
+    match (why, kept) {
+        (LifeEnd::EpochEnded, Kept::Entered(epoch)) => {
+            Some(Notice::ColdStart(heard.f, epoch.number))
+        }
+        (LifeEnd::LaterHeard, Kept::Entered(epoch)) => Some(Notice::EpochHeard {
             epoch: epoch.number,
             machine: heard.from,
             normal_in: heard.normal_in,
         }),
-        // The next life tells it, as each one that begins so.
-        Step::WaitsAbove(_) => None,
-        _ => return None,
-    };
-    Some(Leaving { kept, notice })
+        // The next life tells that it waits, as each one that begins so.
+        _ => None,
+    }
+}
+
+/// How a life ends by what is to be done about epochs, if it does.
+pub(crate) fn leaving_by(action: EpochAction, heard: Heard) -> Option<Leaving>
+    ensures { result ≡ leaving_by action heard }
+{
+    match action {
+        EpochAction::Leaves(why, kept) => Some(Leaving {
+            kept,
+            notice: end_notice(why, kept, heard),
+        }),
+        _ => None,
+    }
 }
 
 /// The first bytes of the sum of an epoch's image.
@@ -124,30 +134,29 @@ fn program_of(epoch: &Epoch) -> [u8; 8]
     program
 }
 
-/// What is told of a step by which a machine stays where it is, though this one is in another epoch.
-fn staying_by(step: Step, from: u8) -> Option<Notice>
-    ensures { result ≡ staying_by step from }
+/// What is told where a machine stays where it is, though this one is in another epoch.
+fn staying_by(action: EpochAction, from: u8) -> Option<Notice>
+    ensures { result ≡ staying_by action from }
 {
-    match step {
-        Step::Refuses(epoch) => Some(Notice::Group(GroupNotice::EpochRefused {
-            epoch: epoch.number,
-            machine: from,
-            program: program_of(&epoch),
-        })),
-        Step::FarAbove(epoch) => Some(Notice::Group(GroupNotice::EpochFarAbove {
-            epoch: epoch.number,
-            machine: from,
-        })),
-        Step::OtherProgram(epoch) => Some(Notice::OtherProgram(epoch.number)),
+    match action {
+        EpochAction::Tells(EpochNotice::Refused(epoch)) => {
+            Some(Notice::Group(GroupNotice::EpochRefused {
+                epoch: epoch.number,
+                machine: from,
+                program: program_of(&epoch),
+            }))
+        }
+        EpochAction::Tells(EpochNotice::FarAbove(epoch)) => {
+            Some(Notice::Group(GroupNotice::EpochFarAbove {
+                epoch: epoch.number,
+                machine: from,
+            }))
+        }
+        EpochAction::Tells(EpochNotice::OtherProgram(epoch)) => {
+            Some(Notice::OtherProgram(epoch.number))
+        }
         _ => None,
     }
-}
-
-/// Whether an epoch may be one: none has number 0.
-fn is_epoch(epoch: &Epoch) -> bool
-    ensures { result ≡ is_epoch epoch.now }
-{
-    epoch.number != 0
 }
 
 /// What was said to a machine of the group of this identity, if these bytes are that.
@@ -171,12 +180,12 @@ fn notice_of_missed(missed: Option<u8>, addresses: &[SocketAddr]) -> Option<Noti
     Some(Notice::Group(GroupNotice::NotAt(machine, address)))
 }
 
-/// What a notice of a step names beside it.
+/// What a notice of a life's end names beside it.
 #[derive(Clone, Copy)]
 pub(crate) struct Heard {
     /// More than half of the group's machines are one more than this.
     f: u8,
-    /// The machine by whose words the step is taken.
+    /// The machine by whose words it ends.
     from: u8,
     /// The epoch in which the machine was normal before, if in any.
     normal_in: Option<u64>,
@@ -209,13 +218,12 @@ where
         Ok(Keeper {
             host,
             begun: Instant::now(&host.rt)?,
-            cold_start,
+            epochs: EpochKeeper::new(cold_start),
             terms,
             speaker,
             recoveries: [None; MOST_REPLICAS],
             thaw: Thaw::No,
             looked: None,
-            asked: None,
             prober: Prober::new(),
             untold: Vec::new(host.alloc),
             stayed: [None; MOST_REPLICAS],
@@ -242,13 +250,14 @@ where
 
     /// The epoch in which its replica takes part, if it does.
     fn normal_in(&self) -> Option<u64> {
-        if self.cold_start.recovers() {
+        let cold_start = self.epochs.cold_start();
+        if cold_start.recovers() {
             return None;
         }
-        Some(self.cold_start.speaks_in()?.number)
+        Some(cold_start.speaks_in()?.number)
     }
 
-    /// What a notice names of a step that is taken by this machine's words.
+    /// What a notice names where its life ends by this machine's words.
     pub(crate) fn heard_from(&self, from: u8) -> Heard {
         Heard {
             f: self.terms.f,
@@ -257,35 +266,26 @@ where
         }
     }
 
-    /// What becomes of its life by a step.
-    pub(crate) fn leaving(&self, step: Step, heard: Heard) -> Option<Leaving> {
-        leaving_by(step, self.cold_start.kept(), heard)
-    }
-
     /// Hears the hellos that came, until one ends its life.
     pub(crate) fn hear_hellos(&mut self, now: Moment) -> Option<Leaving> {
         for (from, epoch) in self.terms.exchange.hellos(&self.host.rt, self.host.alloc) {
-            // Who has lost its disk counts for nothing.
-            if !is_epoch(&epoch) {
-                continue;
-            }
             let heard = self.heard_from(from);
-            let step = self.cold_start.hear(from, &epoch, now);
-            if let Some(leaving) = self.leaving(step, heard) {
+            let action = self.epochs.hear(from, &epoch, now);
+            if let Some(leaving) = leaving_by(action, heard) {
                 return Some(leaving);
             }
-            self.stay(step, from);
+            self.stay(action, from);
         }
         None
     }
 
-    /// Tells why it stays where it is by this step, if that wasn't told of this machine last: hellos come several times
-    /// a second.
-    fn stay(&mut self, step: Step, from: u8) {
+    /// Tells why it stays where it is, where that's to be told and wasn't told of this machine last: hellos come
+    /// several times a second.
+    fn stay(&mut self, action: EpochAction, from: u8) {
         let Some(told) = self.stayed.get_mut(usize::from(from)) else {
             return;
         };
-        let notice = staying_by(step, from);
+        let notice = staying_by(action, from);
         if notice.is_some() && *told != notice {
             *told = notice;
             self.tell(notice);
@@ -327,8 +327,8 @@ where
         if let Some(leaving) = self.hear_hellos(now) {
             return Some(Waited::Leaves(leaving));
         }
-        match self.cold_start.look(now) {
-            Step::Begins(epoch) => Some(Waited::Begins(epoch)),
+        match self.epochs.look(now) {
+            EpochAction::Keeps(Kept::Begun(epoch)) => Some(Waited::Begins(epoch)),
             _ => None,
         }
     }
@@ -349,7 +349,7 @@ where
         let near = self.terms.exchange.near();
         for number in 0..MOST_REPLICAS as u8 {
             if is_among(near, number) {
-                let _ = self.cold_start.hear_sign(number, epoch, now);
+                let _ = self.epochs.hear_sign(number, epoch, now);
             }
         }
     }
@@ -368,7 +368,7 @@ where
         for number in 0..self.recoveries.len() {
             if came >> number & 1 == 1 {
                 self.recoveries[number] = Some(now);
-                let _ = self.cold_start.hear_recovery(number as u8, epoch, now);
+                let _ = self.epochs.hear_recovery(number as u8, epoch, now);
             }
         }
     }
@@ -383,14 +383,10 @@ where
     }
 
     /// Says again what it asks, where it's time to.
-    pub(crate) fn ask(&mut self, epoch: &Epoch, now: Moment) {
-        let Some(question) = self.cold_start.question() else {
-            return;
-        };
-        if is_past(self.asked, now, ASKING) {
-            self.asked = Some(now);
+    pub(crate) fn ask(&mut self, now: Moment) {
+        if let Some(Question { epoch, word }) = self.epochs.take_question(now) {
             let connected = self.terms.exchange.reached();
-            self.speaker.say_to_all(connected, *epoch, question);
+            self.speaker.say_to_all(connected, epoch, word);
         }
     }
 }

@@ -1,7 +1,7 @@
 //! The process of one machine of a group, from epoch to epoch: its replica in a thread, the driver that has the group
 //! scan while that replica leads, the port for Modbus clients, which is open only while outputs are shown, an
-//! operator's console, a page, and the journal. It joins what `plc_store` keeps, `plc_epochs` says, `net_peers`
-//! connects, `vr_threads` serves and `plc_node_core` decides.
+//! operator's console, a page, and the journal. It joins what `plc_store` keeps, `net_peers` connects and `vr_threads`
+//! serves by what `plc_node_core` and `plc_host_core` decide.
 //!
 //! ```rust
 //! let mut member = Member::open(host, "store")?; // locked
@@ -19,13 +19,13 @@
 //! there is one (`release`). Whether the port is open is what its node is told (`open`, `shut`), and the machine shows
 //! that it drives exactly while it's open. How a node ends is how its machine's driver does, which leaves its epoch
 //! only with what the store is to have (`parting_of`). Of an answer to a RECOVERY on a held link nothing is made
-//! (`let_through`); a life ends for another epoch by the steps that say so alone (`leaving_by`); no machine begins anew
-//! by itself whose program was changed (`is_automatic`). A replica is started as new exactly where that was judged to
-//! be its first start (`way_of`, `files`). Nothing that its directory is to keep is taken for kept which isn't, if the
-//! directory tells what it keeps: else the replica's link is dead (`Marking::keep`). A frozen machine's link stays held
-//! (`link_order`). That no majority is heard, that an operator is wanted and that a replica hangs are told exactly
-//! where that turned (`Majority`, `by_hand_notice`, `hang_notice`). By its type: a store gets a later epoch only from
-//! the end of a life (`Left`).
+//! (`let_through`); a life ends for another epoch where that's to be done about epochs, and by nothing else
+//! (`leaving_by`); no machine begins anew by itself whose program was changed (`is_automatic`). A replica is started as
+//! new exactly where that was judged to be its first start (`way_of`, `files`). Nothing that its directory is to keep
+//! is taken for kept which isn't, if the directory tells what it keeps: else the replica's link is dead
+//! (`Marking::keep`). A frozen machine's link stays held (`link_order`). That no majority is heard, that an operator is
+//! wanted and that a replica hangs are told exactly where that turned (`Majority`, `by_hand_notice`, `hang_notice`). By
+//! its type: a store gets a later epoch only from the end of a life (`Left`).
 //!
 //! By its code alone, and tested (`tools/try-machines`): that what the node of a machine says is done before it's asked
 //! again, that it's told what the replica shows, and that each message that comes reaches it; how threads, locks,

@@ -298,7 +298,7 @@ where
             Gone::Begins(epoch) => {
                 // Its store has that before its replica says a word.
                 self.keep(host, Entry::Begins(epoch), err)?;
-                let _ = life.keeper.cold_start.stored(&Kept::Begun(epoch));
+                let _ = life.keeper.epochs.stored(&Kept::Begun(epoch));
                 Ok(Outcome::Starts { is_first: true })
             }
         }
@@ -324,7 +324,7 @@ where
         is_first: bool,
     ) -> Result<(Epoch, ReplicaFiles<MachineStore<R>, Marker<R>>, Stop), Unserved> {
         let number = life.origin.header.machine;
-        let Some(epoch) = life.keeper.cold_start.speaks_in() else {
+        let Some(epoch) = life.keeper.epochs.cold_start().speaks_in() else {
             return Err(Unserved::Failed(Failed::Store(number)));
         };
         let stop = self.stop.another()?;
