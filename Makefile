@@ -120,7 +120,7 @@ USERS = $(DESTDIR)$(PREFIX)/lib/sysusers.d
 
 install:
 	@$(PROVED)
-	mkdir -p $(BIN) $(SHARE)/man/man1 $(SHARE)/plc/examples/console $(SHARE)/plc/examples/field $(SHARE)/plc/examples/machines $(SHARE)/plc/docs/pictures $(SHARE)/plc/tools/importing $(UNITS) $(USERS)
+	mkdir -p $(BIN) $(SHARE)/man/man1 $(SHARE)/plc/examples/console $(SHARE)/plc/examples/field $(SHARE)/plc/examples/machines $(SHARE)/plc/examples/prometheus $(SHARE)/plc/docs/pictures $(SHARE)/plc/tools/importing $(UNITS) $(USERS)
 	install -m 755 build/plc $(BIN)/plc
 	tools/man-page build/plc > $(SHARE)/man/man1/plc.1
 	install -m 644 README.md SECURITY.md CHANGELOG.md CONTRIBUTING.md $(SHARE)/plc
@@ -132,6 +132,7 @@ install:
 	install -m 644 examples/console/*.* $(SHARE)/plc/examples/console
 	install -m 644 examples/field/*.* $(SHARE)/plc/examples/field
 	install -m 644 examples/machines/*.* $(SHARE)/plc/examples/machines
+	install -m 644 examples/prometheus/*.* $(SHARE)/plc/examples/prometheus
 	for unit in plc.service plc@.service plc-field@.service; do sed 's#/usr/local#$(PREFIX)#g' examples/$$unit > $(UNITS)/$$unit && chmod 644 $(UNITS)/$$unit || exit 1; done
 	install -m 644 examples/plc.sysusers $(USERS)/plc.conf
 
