@@ -1,8 +1,9 @@
 -- The moves of the code, one after another.
 use Rattle.std.proofs.Common.{◌≡◌, ℕ, zero, suc, ◌<◌, Bool, true, false, eqb, List, [], ◌∷◌, ◌++◌, take, drop, Option, Some, None, Ok, Err, refl, sym, ap, ◌∙◌, subst, append_assoc, ◌⊎◌, inl, inr}
-use Rattle.std.specs.Prelude.{slice_get, MatchBool}
+use Rattle.std.specs.Prelude.{is_some, slice_get, MatchBool}
 use Rattle.std.proofs.lemmas.Bool.{cases_eq, eqb-true}
 use Rattle.std.proofs.lemmas.List.{append-nil}
+use Rattle.std.proofs.lemmas.Option.{same_Some}
 use Rattle.il_model.specs.declared.command.Command.{Command}
 use Rattle.il_model.specs.declared.command.Answer.{Answer}
 use Rattle.vr_model.specs.declared.event.Event.{Event}
@@ -18,12 +19,12 @@ use Rattle.vr_model.specs.Membership.{Group, Membership, member}
 use Rattle.vr_model.specs.Messages.{Message, Body, Party, Replica, RequestMessage, NewState}
 use Rattle.vr_model.specs.Replicas.{ReplicaState, Outcome, is_down, put}
 use Rattle.vr_model.specs.Rules.{receives}
-use Rattle.vr_model.specs.World.{ClientState, executed, retried, first_replica}
+use Rattle.vr_model.specs.World.{ClientState, executed, retried, first_replica, down}
 use Rattle.vr_model.specs.Checkpoints.{SavedCheckpoint, KeptLog, LogStands}
 use Rattle.vr_model.specs.Steps.{Input, Takes, TimesOut, Resends, acts, ClientAction, Submits, Retries, StartsAgain, Hears, ClientStep, MayClient, client_after, client_sends, first_client}
-use Rattle.vr_model.specs.Stores.{Observation, Did, LostStep, LostSave, Crashed, CameUp, StayedDown, KnownState, only, next, first_known_state}
+use Rattle.vr_model.specs.Stores.{Observation, Did, LostStep, LostSave, Crashed, CameUp, StayedDown, KnownState, MayShow, only, adds, next, first_known_state}
 use Rattle.vr_model.specs.Interleaving.{ActionTakesSent}
-use Rattle.vr_model.specs.StandsFor.{party_of, body_with, Stands, AllStand, MayFit, Fits}
+use Rattle.vr_model.specs.StandsFor.{party_of, body_with, Stands, AllStand, AllStandFrom, MayFit, Fits}
 use Rattle.vr_core.specs.StandsFor.{IsSavedAs}
 use Rattle.vr_replica.specs.declared.state.Replica as code_replica
 use Rattle.vr_replica.specs.declared.fault.StepFault.TheVariants as fault
@@ -35,13 +36,13 @@ use Rattle.vr_serving.specs.Serving.{StepsTo, sends_in}
 use Rattle.vr_threads.specs.Working.{HasStarted, StandsDown}
 use Rattle.laws_threads.specs.ObservedMoves.{ObservedMove, ByReplica, ByClient, all_said, InputTakesSent}
 use Rattle.laws_threads.specs.ObservedMoves.{ObservationTakesSent, AreFromTheFirst, IsOneRun, known_at, MayPresuppose}
-use Rattle.laws_threads.specs.ObservedMoves.{Means, FitsIn, observation_of}
-use Rattle.laws_threads.specs.CodeMoves.{CodeMove, Starts, Steps, Serves, Seat, given_with, IsUnused, TakesHanded, HearsHanded, IsNextStart, AreCodeMoves, AreFromTheStart, AreOneRun, seats_after, all_handed, clients_in, observed_clients}
+use Rattle.laws_threads.specs.ObservedMoves.{Means, FitsIn, IsShownAs, observation_of, said}
+use Rattle.laws_threads.specs.CodeMoves.{CodeMove, Starts, Steps, Dies, Serves, Seat, runs, killed, KilledWithin, given_with, IsUnused, TakesHanded, HearsHanded, IsNextStart, StartsAsLeft, AreCodeMoves, AreFromTheStart, AreOneRun, seats_after, all_handed, clients_in, observed_clients}
 use Rattle.laws_threads.proofs.Tables.{put_same, put_other}
 use Rattle.laws_threads.proofs.Appending.{clients_after, knowns_append, clients_append, said_append, right_append, observed_append}
 use Rattle.laws_threads.proofs.Handed.{IsHandedOn, MayBeHandedOn, HandsOn, StandsIn, AllStandIn, all_append, all_at, all_stand, all_later, was_still}
 use Rattle.laws_threads.proofs.Seated.{known, IsSeated, MaySit, At, reseated, one_more}
-use Rattle.laws_threads.proofs.Stepping.{shows, held, acted, came_up, IsRestart, only_of}
+use Rattle.laws_threads.proofs.Stepping.{shows, held, killed_holds, restart_held, acted, came_up, IsRestart, only_of}
 
 take_prefix : {X : Type 0} (n : ℕ) (xs : List X) → IsPrefix (take n xs) xs
 take_prefix zero xs = record { rest = xs; is = refl }
@@ -66,6 +67,10 @@ restart_takes sent i place (LostSave x) is = absurd is
 restart_takes sent i place Crashed is = tt
 restart_takes sent i place (CameUp n loaded sends) is = tt
 restart_takes sent i place (StayedDown n) is = tt
+
+-- what stands is what runs
+same_stands : (m : Membership) (r : ReplicaState Command) (q p : code_replica.Replica) → Some q ≡ Some p → StandsFor q m r → StandsFor p m r
+same_stands m r q p e h = subst (λ (x : code_replica.Replica). StandsFor x m r) (same_Some q p e) h
 
 -- it uses no nonce
 used_same : (m : Membership) (k : KnownState Command) (x : Input Command Answer) (result : StepResult) → (next m.f m.number m.answer k (observation_of m k.replica x result)).used ≡ k.used
@@ -134,27 +139,57 @@ module _ {S : Type 0} (loads : S → Option Stored → S → Type 0) (saves : S 
 
   module _ (seats : ℕ → Option (Seat S)) (given : ℕ → ℕ → Bool) (clients : ℕ → ClientState Command) (sent : List code.Message) (os : List (ObservedMove Command Answer)) (at : At holds g seats given clients sent os) where
     -- ---- a step of a replica that takes an input up
-    module _ (i place : ℕ) (low : i < group_size g.f) (seat : Seat S) (r : code_replica.Replica) (left : S) (result : StepResult) (sits : IsSeated holds g i (known holds g os i) (given i) seat) where
+    module _ (i place : ℕ) (low : i < group_size g.f) (q : code_replica.Replica) (s : S) (waits : Option ℕ) (sits : IsSeated holds g i (known holds g os i) (given i) (runs q s waits)) where
       abbrev k : KnownState Command
       k = known holds g os i
 
-      takes_up : (e : Event) (x : Input Command Answer) → StepsTo loads saves faults seat.replica seat.store e r left result → Means (member g i) e x → KeepsExecuted (member g i) k.replica x → FitsIn (member g i) k.replica e x → InputTakesSent (all_said os) i x place
-          → Goes (put seats i (Some (record { replica = r; store = left; waits = None }))) given clients (sent ++ sends_in result) os []
-      takes_up e x steps means keeps_log fits takes =
-          let does : Acted loads saves IsSavedAs (StandsFor r (member g i)) (member g i) k.replica seat.store left (acts g.f i g.answer k.replica x) result =
-          acted loads saves faults seat.replica r seat.store left e result (member g i) k x steps sits.stands means keeps_log fits in
+      stands : StandsFor q (member g i) k.replica
+      stands = sits.stands q refl
+
+      takes_up : (r : code_replica.Replica) (left : S) (result : StepResult) (e : Event) (x : Input Command Answer) → StepsTo loads saves faults q s e r left result → Means (member g i) e x → KeepsExecuted (member g i) k.replica x → FitsIn (member g i) k.replica e x → InputTakesSent (all_said os) i x place
+          → Goes (put seats i (Some (runs r left None))) given clients (sent ++ sends_in result) os []
+      takes_up r left result e x steps means keeps_log fits takes =
+          let does : Acted loads saves IsSavedAs (StandsFor r (member g i)) (member g i) k.replica s left (acts g.f i g.answer k.replica x) result =
+          acted loads saves faults q r s left e result (member g i) k x steps stands means keeps_log fits in
           let o : Observation Command Answer = observation_of (member g i) k.replica x result in
+          let is_shown : IsShownAs (member g i) k o r (sends_in result) = shows loads saves (member g i) r s left k x result does in
           record {
             more = ByReplica i o place ∷ [];
-            at = one_more holds g seats given given clients sent os at i place low o (record { replica = r; store = left; waits = None }) (sends_in result)
-                (shows loads saves (member g i) r seat.store left k x result does)
+            at = one_more holds g seats given given clients sent os at i place low o (runs r left None) (sends_in result)
+                is_shown.may (λ p e. same_stands (member g i) (next g.f i g.answer k o).replica r p e is_shown.stands) is_shown.says
                 (observed_takes (member g i) k.replica (all_said os) i place x result takes)
-                (held loads saves begins holds keeps (member g i) r seat.store left k x result does sits.held)
+                (held loads saves begins holds keeps (member g i) r s left k x result does sits.held)
                 (λ n e. absurd (let no : None ≡ Some n = e in cc))
                 (λ n u. at.used i n (subst (λ (h : ℕ → Bool). h n ≡ true) (used_same (member g i) k x result) u))
                 (λ j ne. refl);
             own = refl;
           }
+
+      -- its process is killed within that
+      killed_up : (e : Event) (left : S) (x : Input Command Answer) → KilledWithin loads saves faults holds q s e left → Means (member g i) e x → KeepsExecuted (member g i) k.replica x → FitsIn (member g i) k.replica e x → InputTakesSent (all_said os) i x place
+          → Goes (put seats i (Some (killed left))) given clients sent os []
+      killed_up e left x by means keeps_log fits takes =
+          let does : Acted loads saves IsSavedAs (StandsFor by.becomes (member g i)) (member g i) k.replica s by.saved (acts g.f i g.answer k.replica x) by.result =
+          acted loads saves faults q by.becomes s by.saved e by.result (member g i) k x by.step stands means keeps_log fits in
+          shown_killed left x (acts g.f i g.answer k.replica x).saves refl takes (killed_holds loads saves begins holds keeps (member g i) by.becomes s by.saved k left x by.result does sits.held by.holds_no_other)
+        where
+          shows_so : (left : S) (o : Observation Command Answer) → MayShow g.f i g.answer k o → holds left (next g.f i g.answer k o).may_keep → ObservationTakesSent (all_said os) i o place → said o ≡ [] → (next g.f i g.answer k o).used ≡ k.used → Goes (put seats i (Some (killed left))) given clients sent os []
+          shows_so left o may kept takes silent used = record {
+            more = ByReplica i o place ∷ [];
+            at = subst (λ (ms : List code.Message). At holds g (put seats i (Some (killed left))) given clients ms (os ++ ByReplica i o place ∷ [])) (append-nil sent)
+                (one_more holds g seats given given clients sent os at i place low o (killed left) []
+                may (λ p e. absurd (let no : None ≡ Some p = e in cc)) (subst (λ (ms : List (Message Command Answer)). AllStandFrom IsSavedAs g (next g.f i g.answer k o).replica [] ms) (sym silent) tt)
+                takes kept
+                (λ n e. absurd (let no : None ≡ Some n = e in cc))
+                (λ n u. at.used i n (subst (λ (h : ℕ → Bool). h n ≡ true) used u))
+                (λ j ne. refl));
+            own = refl;
+          }
+
+          shown_killed : (left : S) (x : Input Command Answer) (o : Option ℕ) → (acts g.f i g.answer k.replica x).saves ≡ o → InputTakesSent (all_said os) i x place → holds left (adds k.may_keep (acts g.f i g.answer k.replica x).saves)
+              → Goes (put seats i (Some (killed left))) given clients sent os []
+          shown_killed left x None is takes kept = shows_so left Crashed tt (subst (λ o. holds left (adds k.may_keep o)) is kept) tt refl refl
+          shown_killed left x (Some view) is takes kept = shows_so left (LostSave x) (ap is_some is) kept takes refl refl
 
       -- of a message, what the rules need of it holds where the replica is
       module _ (a : code.Message) (is : slice_get sent place ≡ Some a) (to : a.to ≡ party.Replica i) where
@@ -222,20 +257,25 @@ module _ {S : Type 0} (loads : S → Option Stored → S → Type 0) (saves : S 
             go (says.RecoveryResponse v x state) h = tt
             go (says.GetState v p) h = tt
 
-        takes_message : StepsTo loads saves faults seat.replica seat.store (event.Message a) r left result → Goes (put seats i (Some (record { replica = r; store = left; waits = None }))) given clients (sent ++ sends_in result) os []
-        takes_message steps = takes_up (event.Message a) (Takes m) steps (m, meant.2.stands, refl) (λ over. keeps_log) fits (meant.1, to_is)
+        takes_message : (r : code_replica.Replica) (left : S) (result : StepResult) → StepsTo loads saves faults q s (event.Message a) r left result → Goes (put seats i (Some (runs r left None))) given clients (sent ++ sends_in result) os []
+        takes_message r left result steps = takes_up r left result (event.Message a) (Takes m) steps (m, meant.2.stands, refl) (λ over. keeps_log) fits (meant.1, to_is)
+
+        killed_at_message : (left : S) → KilledWithin loads saves faults holds q s (event.Message a) left → Goes (put seats i (Some (killed left))) given clients sent os []
+        killed_at_message left by = killed_up (event.Message a) left (Takes m) by (m, meant.2.stands, refl) (λ over. keeps_log) fits (meant.1, to_is)
+
+      -- what it owes of a restart, where it is to come up
+      owed : (n : ℕ) (r : code_replica.Replica) (left : S) (result : StepResult) → StepsTo loads saves faults q s (event.Restart n) r left result → is_down k.replica.status ≡ true → step.Restarted loads saves IsSavedAs (StandsFor r (member g i)) (member g i) k.replica s left n result
+      owed n r left result steps down = subst (λ (b : Bool). step.RestartedIf loads saves IsSavedAs (StandsFor r (member g i)) (member g i) k.replica s left b n result) down (steps.row (member g i) k.replica stands)
 
       -- it comes up, or tries
-      comes_up : (n : ℕ) → StepsTo loads saves faults seat.replica seat.store (event.Restart n) r left result → seat.waits ≡ Some n → Goes (put seats i (Some (record { replica = r; store = left; waits = None }))) given clients (sent ++ sends_in result) os []
-      comes_up n steps waits =
-          let w = sits.waits n waits in
-          let owed : step.Restarted loads saves IsSavedAs (StandsFor r (member g i)) (member g i) k.replica seat.store left n result =
-          subst (λ (b : Bool). step.RestartedIf loads saves IsSavedAs (StandsFor r (member g i)) (member g i) k.replica seat.store left b n result) w.0 (steps.row (member g i) k.replica sits.stands) in
-          let now : Seat S = record { replica = r; store = left; waits = None } in
-          elim (came_up loads saves begins holds keeps (member g i) r seat.store left k n result owed w.0 w.1 sits.held) [
+      comes_up : (r : code_replica.Replica) (left : S) (result : StepResult) (n : ℕ) → StepsTo loads saves faults q s (event.Restart n) r left result → waits ≡ Some n → Goes (put seats i (Some (runs r left None))) given clients (sent ++ sends_in result) os []
+      comes_up r left result n steps waiting =
+          let w = sits.waits n waiting in
+          let now : Seat S = runs r left None in
+          elim (came_up loads saves begins holds keeps (member g i) r s left k n result (owed n r left result steps w.0) w.0 w.1 sits.held) [
             | inl x ↦ record {
               more = ByReplica i x.0 place ∷ [];
-              at = one_more holds g seats given given clients sent os at i place low x.0 now (sends_in result) x.1 (restart_takes (all_said os) i place x.0 x.4) x.2
+              at = one_more holds g seats given given clients sent os at i place low x.0 now (sends_in result) x.1.may (λ p e. same_stands (member g i) (next g.f i g.answer k x.0).replica r p e x.1.stands) x.1.says (restart_takes (all_said os) i place x.0 x.4) x.2
                   (λ q e. absurd (let no : None ≡ Some q = e in cc))
                   (λ q u. elim (cases_eq q n) [
                     | inl e ↦ subst (λ y. given i y ≡ true) (sym e) w.2
@@ -246,19 +286,41 @@ module _ {S : Type 0} (loads : S → Option Stored → S → Type 0) (saves : S 
             }
             | inr x ↦ nothing (put seats i (Some now)) given clients (sent ++ sends_in result) os
                 (subst (λ (ms : List code.Message). At holds g (put seats i (Some now)) given clients ms os) (sym (ap (λ (ms : List code.Message). sent ++ ms) x.2 ∙ append-nil sent))
-                (reseated holds g seats given given clients sent os i now at (record { stands = x.0; held = x.1; waits = λ q e. absurd (let no : None ≡ Some q = e in cc) }) (λ j ne. refl) (λ q u. u)))
+                (reseated holds g seats given given clients sent os i now at (record { stands = λ p e. same_stands (member g i) k.replica r p e x.0; held = x.1; waits = λ q e. absurd (let no : None ≡ Some q = e in cc) }) (λ j ne. refl) (λ q u. u)))
           ]
 
-      stepped : (e : Event) → StepsTo loads saves faults seat.replica seat.store e r left result → TakesHanded sent i seat.waits e place → Goes (put seats i (Some (record { replica = r; store = left; waits = None }))) given clients (sent ++ sends_in result) os []
-      stepped (event.Message a) steps takes = takes_message a takes.1 takes.2 steps
-      stepped event.Timeout steps takes = takes_up event.Timeout TimesOut steps refl tt tt tt
-      stepped event.Resend steps takes = takes_up event.Resend Resends steps refl tt tt tt
-      stepped (event.Restart n) steps takes = comes_up n steps takes
+      -- its process is killed within that: it was down, and is
+      killed_coming_up : (left : S) (n : ℕ) → KilledWithin loads saves faults holds q s (event.Restart n) left → waits ≡ Some n → Goes (put seats i (Some (killed left))) given clients sent os []
+      killed_coming_up left n by waiting =
+          let w = sits.waits n waiting in
+          let kept : holds by.saved k.may_keep = restart_held loads saves begins holds keeps (member g i) by.becomes s by.saved k n by.result (owed n by.becomes by.saved by.result by.step w.0) sits.held in
+          nothing (put seats i (Some (killed left))) given clients sent os
+          (reseated holds g seats given given clients sent os i (killed left) at
+          (record { stands = λ p e. absurd (let no : None ≡ Some p = e in cc); held = by.holds_no_other k.may_keep sits.held kept; waits = λ q e. absurd (let no : None ≡ Some q = e in cc) })
+          (λ j ne. refl) (λ q u. u))
 
-    step_of : (i place : ℕ) (e : Event) (r : code_replica.Replica) (left : S) (result : StepResult) (seat : Seat S) → i < group_size g.f → seats i ≡ Some seat → StepsTo loads saves faults seat.replica seat.store e r left result → TakesHanded sent i seat.waits e place
-        → Goes (put seats i (Some (record { replica = r; store = left; waits = None }))) given clients (sent ++ sends_in result) os []
-    step_of i place e r left result seat low is steps takes =
-        stepped i place low seat r left result (subst (λ o. MaySit holds g i (known holds g os i) (given i) o) is (at.sits i)) e steps takes
+      stepped : (r : code_replica.Replica) (left : S) (result : StepResult) (e : Event) → StepsTo loads saves faults q s e r left result → TakesHanded sent i waits e place → Goes (put seats i (Some (runs r left None))) given clients (sent ++ sends_in result) os []
+      stepped r left result (event.Message a) steps takes = takes_message a takes.1 takes.2 r left result steps
+      stepped r left result event.Timeout steps takes = takes_up r left result event.Timeout TimesOut steps refl tt tt tt
+      stepped r left result event.Resend steps takes = takes_up r left result event.Resend Resends steps refl tt tt tt
+      stepped r left result (event.Restart n) steps takes = comes_up r left result n steps takes
+
+      died : (left : S) (e : Event) → KilledWithin loads saves faults holds q s e left → TakesHanded sent i waits e place → Goes (put seats i (Some (killed left))) given clients sent os []
+      died left (event.Message a) by takes = killed_at_message a takes.1 takes.2 left by
+      died left event.Timeout by takes = killed_up event.Timeout left TimesOut by refl tt tt tt
+      died left event.Resend by takes = killed_up event.Resend left Resends by refl tt tt tt
+      died left (event.Restart n) by takes = killed_coming_up left n by takes
+
+    seat_here : (i : ℕ) (seat : Seat S) → seats i ≡ Some seat → IsSeated holds g i (known holds g os i) (given i) seat
+    seat_here i seat is = subst (λ o. MaySit holds g i (known holds g os i) (given i) o) is (at.sits i)
+
+    step_of : (i place : ℕ) (e : Event) (r : code_replica.Replica) (left : S) (result : StepResult) (q : code_replica.Replica) (s : S) (waits : Option ℕ) → i < group_size g.f → seats i ≡ Some (runs q s waits) → StepsTo loads saves faults q s e r left result → TakesHanded sent i waits e place
+        → Goes (put seats i (Some (runs r left None))) given clients (sent ++ sends_in result) os []
+    step_of i place e r left result q s waits low is steps takes = stepped i place low q s waits (seat_here i (runs q s waits) is) r left result e steps takes
+
+    death_of : (i place : ℕ) (e : Event) (left : S) (q : code_replica.Replica) (s : S) (waits : Option ℕ) → i < group_size g.f → seats i ≡ Some (runs q s waits) → KilledWithin loads saves faults holds q s e left → TakesHanded sent i waits e place
+        → Goes (put seats i (Some (killed left))) given clients sent os []
+    death_of i place e left q s waits low is by takes = died i place low q s waits (seat_here i (runs q s waits) is) left e by takes
 
     -- ---- a start
     module _ (i : ℕ) (low : i < group_size g.f) (q : code_replica.Replica) (found left : S) (nonce starts : Option ℕ) (unused : IsUnused (given i) nonce) where
@@ -266,7 +328,7 @@ module _ {S : Type 0} (loads : S → Option Stored → S → Type 0) (saves : S 
       was = known holds g os i
 
       abbrev now : Seat S
-      now = record { replica = q; store = left; waits = nonce }
+      now = runs q left nonce
 
       abbrev after : ℕ → ℕ → Bool
       after = put given i (given_with (given i) nonce)
@@ -296,7 +358,7 @@ module _ {S : Type 0} (loads : S → Option Stored → S → Type 0) (saves : S 
       crashes stands kept = record {
         more = ByReplica i Crashed 0 ∷ [];
         at = subst (λ (ms : List code.Message). At holds g (put seats i (Some now)) after clients ms (os ++ ByReplica i Crashed 0 ∷ [])) (append-nil sent)
-            (one_more holds g seats given after clients sent os at i 0 low Crashed now [] (record { may = tt; stands = stands was.replica; says = tt }) tt kept
+            (one_more holds g seats given after clients sent os at i 0 low Crashed now [] tt (λ p e. same_stands (member g i) (down was.replica) q p e (stands was.replica)) tt tt kept
             (λ n e. let w = waits_so n e in (refl, w.0, w.1)) (λ x u. more_after x (at.used i x u)) (λ j ne. put_other given i (given_with (given i) nonce) j ne));
         own = refl;
       }
@@ -323,15 +385,15 @@ module _ {S : Type 0} (loads : S → Option Stored → S → Type 0) (saves : S 
               nothing (put seats i (Some now)) after clients sent os
               (reseated holds g seats given after clients sent os i now at
               (record {
-                stands = subst (λ (k : KnownState Command). StandsFor q (member g i) k.replica) (sym sits) w.2;
+                stands = λ p e. same_stands (member g i) was.replica q p e (subst (λ (k : KnownState Command). StandsFor q (member g i) k.replica) (sym sits) w.2);
                 held = keeps.more left (only stored.view) was.may_keep x.1 (only_of loads saves begins holds keeps was.may_keep stored.view x.0);
                 waits = λ n f. absurd (let no : None ≡ Some n = sym w.1 ∙ f in cc);
               })
               (λ j ne. put_other given i (given_with (given i) nonce) j ne) more_after)
 
-    start_of : (i : ℕ) (q : code_replica.Replica) (found left : S) (nonce starts : Option ℕ) → i < group_size g.f → HasStarted begins (member g i) found left q nonce starts → IsNextStart loads saves faults begins holds g (seats i) found starts → IsUnused (given i) nonce
-        → Goes (put seats i (Some (record { replica = q; store = left; waits = nonce }))) (put given i (given_with (given i) nonce)) clients sent os []
-    start_of i q found left nonce starts low h next_start unused = started i low q found left nonce starts unused (seats i) (at.sits i) next_start h
+    start_of : (i : ℕ) (q : code_replica.Replica) (left : S) (nonce starts : Option ℕ) → i < group_size g.f → StartsAsLeft loads saves faults begins holds g i (seats i) left q nonce starts → IsUnused (given i) nonce
+        → Goes (put seats i (Some (runs q left nonce))) (put given i (given_with (given i) nonce)) clients sent os []
+    start_of i q left nonce starts low as_left unused = started i low q as_left.knowing left nonce starts unused (seats i) (at.sits i) as_left.next as_left.start
 
     -- ---- a client
     hears : (c : ℕ) (a : ClientAction Command Answer) (place : ℕ) → HearsHanded sent c a place → ActionTakesSent (all_said os) c a place
@@ -376,12 +438,16 @@ module _ {S : Type 0} (loads : S → Option Stored → S → Type 0) (saves : S 
       → AreCodeMoves loads saves faults begins holds g seats given clients sent ms → (more : List (ObservedMove Command Answer)) × AreFromTheFirst g.f g.answer (os ++ more)
   finish [] seats given clients sent os at are = ([], subst (λ xs. AreFromTheFirst g.f g.answer xs) (sym (append-nil os)) at.right)
   finish (Starts i q found left nonce starts ∷ ms) seats given clients sent os at are =
-      let one = start_of seats given clients sent os at i q found left nonce starts are.0 are.1 are.2 are.3 in
-      let rest = finish ms (put seats i (Some (record { replica = q; store = left; waits = nonce }))) (put given i (given_with (given i) nonce)) clients sent (os ++ one.more) one.at are.4 in
+      let one = start_of seats given clients sent os at i q left nonce starts are.0 are.2 are.3 in
+      let rest = finish ms (put seats i (Some (runs q left nonce))) (put given i (given_with (given i) nonce)) clients sent (os ++ one.more) one.at are.4 in
       (one.more ++ rest.0, subst (λ xs. AreFromTheFirst g.f g.answer xs) (append_assoc os one.more rest.0) rest.1)
   finish (Steps i e place r left result ∷ ms) seats given clients sent os at are =
-      let one = step_of seats given clients sent os at i place e r left result are.0 are.1 are.2 are.3 are.4 in
-      let rest = finish ms (put seats i (Some (record { replica = r; store = left; waits = None }))) given clients (sent ++ sends_in result) (os ++ one.more) one.at are.5 in
+      let one = step_of seats given clients sent os at i place e r left result are.0 are.1 are.2 are.3 are.4 are.5 are.6 in
+      let rest = finish ms (put seats i (Some (runs r left None))) given clients (sent ++ sends_in result) (os ++ one.more) one.at are.7 in
+      (one.more ++ rest.0, subst (λ xs. AreFromTheFirst g.f g.answer xs) (append_assoc os one.more rest.0) rest.1)
+  finish (Dies i e place left ∷ ms) seats given clients sent os at are =
+      let one = death_of seats given clients sent os at i place e left are.0 are.1 are.2 are.3 are.4 are.5 are.6 in
+      let rest = finish ms (put seats i (Some (killed left))) given clients sent (os ++ one.more) one.at are.7 in
       (one.more ++ rest.0, subst (λ xs. AreFromTheFirst g.f g.answer xs) (append_assoc os one.more rest.0) rest.1)
   finish (Serves c d out place ∷ ms) seats given clients sent os at are =
       let one = client_of seats given clients sent os at c d out place are.0 are.1 are.2 are.3 in
@@ -393,12 +459,12 @@ module _ {S : Type 0} (loads : S → Option Stored → S → Type 0) (saves : S 
     first : List (ObservedMove Command Answer)
     rest : List (ObservedMove Command Answer)
     right : AreFromTheFirst g.f g.answer ((os ++ first) ++ rest)
-    replicas : (i : ℕ) (seat : Seat S) → seats_after seats early i ≡ Some seat → StandsFor seat.replica (member g i) (known_at g.f g.answer (os ++ first) i)
+    replicas : (i : ℕ) (seat : Seat S) (q : code_replica.Replica) → seats_after seats early i ≡ Some seat → seat.replica ≡ Some q → StandsFor q (member g i) (known_at g.f g.answer (os ++ first) i)
     messages : AllStand IsSavedAs g (sent ++ all_handed early) (all_said (os ++ first))
     own : observed_clients first ≡ clients_in early
 
-  seated : (i : ℕ) (k : KnownState Command) (given : ℕ → Bool) (o : Option (Seat S)) (seat : Seat S) → o ≡ Some seat → MaySit holds g i k given o → StandsFor seat.replica (member g i) k.replica
-  seated i k given o seat e h = let s : IsSeated holds g i k given seat = subst (λ x. MaySit holds g i k given x) e h in s.stands
+  seated : (i : ℕ) (k : KnownState Command) (given : ℕ → Bool) (o : Option (Seat S)) (seat : Seat S) (q : code_replica.Replica) → o ≡ Some seat → MaySit holds g i k given o → seat.replica ≡ Some q → StandsFor q (member g i) k.replica
+  seated i k given o seat q e h is = let s : IsSeated holds g i k given seat = subst (λ x. MaySit holds g i k given x) e h in s.stands q is
 
   along : (early late : List (CodeMove S)) (seats : ℕ → Option (Seat S)) (given : ℕ → ℕ → Bool) (clients : ℕ → ClientState Command) (sent : List code.Message) (os : List (ObservedMove Command Answer)) → At holds g seats given clients sent os
       → AreCodeMoves loads saves faults begins holds g seats given clients sent (early ++ late) → Reached seats sent os early
@@ -409,35 +475,48 @@ module _ {S : Type 0} (loads : S → Option Stored → S → Type 0) (saves : S 
         first = [];
         rest = r.0;
         right = subst (λ xs. AreFromTheFirst g.f g.answer (xs ++ r.0)) (sym none) r.1;
-        replicas = λ i seat e. subst (λ xs. StandsFor seat.replica (member g i) (known_at g.f g.answer xs i)) (sym none) (seated i (known holds g os i) (given i) (seats i) seat e (at.sits i));
+        replicas = λ i seat q e is. subst (λ xs. StandsFor q (member g i) (known_at g.f g.answer xs i)) (sym none) (seated i (known holds g os i) (given i) (seats i) seat q e (at.sits i) is);
         messages = subst (λ (ms : List code.Message). AllStand IsSavedAs g ms (all_said (os ++ []))) (sym (append-nil sent)) (subst (λ (xs : List (ObservedMove Command Answer)). AllStand IsSavedAs g sent (all_said xs)) (sym none) (all_stand g os sent (all_said os) at.handed));
         own = refl;
       }
   along (Starts i q found left nonce starts ∷ early) late seats given clients sent os at are =
-      let one = start_of seats given clients sent os at i q found left nonce starts are.0 are.1 are.2 are.3 in
-      let r : Reached (put seats i (Some (record { replica = q; store = left; waits = nonce }))) sent (os ++ one.more) early =
-      along early late (put seats i (Some (record { replica = q; store = left; waits = nonce }))) (put given i (given_with (given i) nonce)) clients sent (os ++ one.more) one.at are.4 in
+      let one = start_of seats given clients sent os at i q left nonce starts are.0 are.2 are.3 in
+      let r : Reached (put seats i (Some (runs q left nonce))) sent (os ++ one.more) early =
+      along early late (put seats i (Some (runs q left nonce))) (put given i (given_with (given i) nonce)) clients sent (os ++ one.more) one.at are.4 in
       let whole : (os ++ one.more) ++ r.first ≡ os ++ (one.more ++ r.first) = append_assoc os one.more r.first in
       record {
         first = one.more ++ r.first;
         rest = r.rest;
         right = subst (λ xs. AreFromTheFirst g.f g.answer (xs ++ r.rest)) whole r.right;
-        replicas = λ j seat e. subst (λ xs. StandsFor seat.replica (member g j) (known_at g.f g.answer xs j)) whole (r.replicas j seat e);
+        replicas = λ j seat p h is. subst (λ xs. StandsFor p (member g j) (known_at g.f g.answer xs j)) whole (r.replicas j seat p h is);
         messages = subst (λ (xs : List (ObservedMove Command Answer)). AllStand IsSavedAs g (sent ++ all_handed early) (all_said xs)) whole r.messages;
         own = observed_append one.more r.first ∙ ap (λ (xs : List (ℕ × ClientStep Command Answer)). xs ++ observed_clients r.first) one.own ∙ r.own;
       }
   along (Steps i e place q left result ∷ early) late seats given clients sent os at are =
-      let one = step_of seats given clients sent os at i place e q left result are.0 are.1 are.2 are.3 are.4 in
-      let r : Reached (put seats i (Some (record { replica = q; store = left; waits = None }))) (sent ++ sends_in result) (os ++ one.more) early =
-      along early late (put seats i (Some (record { replica = q; store = left; waits = None }))) given clients (sent ++ sends_in result) (os ++ one.more) one.at are.5 in
+      let one = step_of seats given clients sent os at i place e q left result are.0 are.1 are.2 are.3 are.4 are.5 are.6 in
+      let r : Reached (put seats i (Some (runs q left None))) (sent ++ sends_in result) (os ++ one.more) early =
+      along early late (put seats i (Some (runs q left None))) given clients (sent ++ sends_in result) (os ++ one.more) one.at are.7 in
       let whole : (os ++ one.more) ++ r.first ≡ os ++ (one.more ++ r.first) = append_assoc os one.more r.first in
       record {
         first = one.more ++ r.first;
         rest = r.rest;
         right = subst (λ xs. AreFromTheFirst g.f g.answer (xs ++ r.rest)) whole r.right;
-        replicas = λ j seat h. subst (λ xs. StandsFor seat.replica (member g j) (known_at g.f g.answer xs j)) whole (r.replicas j seat h);
+        replicas = λ j seat p h is. subst (λ xs. StandsFor p (member g j) (known_at g.f g.answer xs j)) whole (r.replicas j seat p h is);
         messages = subst (λ (ms : List code.Message). AllStand IsSavedAs g ms (all_said (os ++ (one.more ++ r.first)))) (append_assoc sent (sends_in result) (all_handed early))
             (subst (λ (xs : List (ObservedMove Command Answer)). AllStand IsSavedAs g ((sent ++ sends_in result) ++ all_handed early) (all_said xs)) whole r.messages);
+        own = observed_append one.more r.first ∙ ap (λ (xs : List (ℕ × ClientStep Command Answer)). xs ++ observed_clients r.first) one.own ∙ r.own;
+      }
+  along (Dies i e place left ∷ early) late seats given clients sent os at are =
+      let one = death_of seats given clients sent os at i place e left are.0 are.1 are.2 are.3 are.4 are.5 are.6 in
+      let r : Reached (put seats i (Some (killed left))) sent (os ++ one.more) early =
+      along early late (put seats i (Some (killed left))) given clients sent (os ++ one.more) one.at are.7 in
+      let whole : (os ++ one.more) ++ r.first ≡ os ++ (one.more ++ r.first) = append_assoc os one.more r.first in
+      record {
+        first = one.more ++ r.first;
+        rest = r.rest;
+        right = subst (λ xs. AreFromTheFirst g.f g.answer (xs ++ r.rest)) whole r.right;
+        replicas = λ j seat p h is. subst (λ xs. StandsFor p (member g j) (known_at g.f g.answer xs j)) whole (r.replicas j seat p h is);
+        messages = subst (λ (xs : List (ObservedMove Command Answer)). AllStand IsSavedAs g (sent ++ all_handed early) (all_said xs)) whole r.messages;
         own = observed_append one.more r.first ∙ ap (λ (xs : List (ℕ × ClientStep Command Answer)). xs ++ observed_clients r.first) one.own ∙ r.own;
       }
   along (Serves c d out place ∷ early) late seats given clients sent os at are =
@@ -449,7 +528,7 @@ module _ {S : Type 0} (loads : S → Option Stored → S → Type 0) (saves : S 
         first = one.more ++ r.first;
         rest = r.rest;
         right = subst (λ xs. AreFromTheFirst g.f g.answer (xs ++ r.rest)) whole r.right;
-        replicas = λ j seat h. subst (λ xs. StandsFor seat.replica (member g j) (known_at g.f g.answer xs j)) whole (r.replicas j seat h);
+        replicas = λ j seat p h is. subst (λ xs. StandsFor p (member g j) (known_at g.f g.answer xs j)) whole (r.replicas j seat p h is);
         messages = subst (λ (ms : List code.Message). AllStand IsSavedAs g ms (all_said (os ++ (one.more ++ r.first)))) (append_assoc sent out (all_handed early))
             (subst (λ (xs : List (ObservedMove Command Answer)). AllStand IsSavedAs g ((sent ++ out) ++ all_handed early) (all_said xs)) whole r.messages);
         own = observed_append one.more r.first ∙ ap (λ (xs : List (ℕ × ClientStep Command Answer)). xs ++ observed_clients r.first) one.own ∙ ap (λ (xs : List (ℕ × ClientStep Command Answer)). (c, d) ∷ xs) r.own;

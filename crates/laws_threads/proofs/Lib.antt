@@ -17,3 +17,7 @@ pub mod PatientKept
 pub mod NumberedKept
 pub mod Numbers
 pub mod Opened
+pub mod Silent
+pub mod Widening
+pub mod Ran
+pub mod Seen

@@ -8,8 +8,8 @@ use Rattle.vr_model.specs.World.{first_replica}
 use Rattle.vr_replica.specs.declared.state.Replica.{Replica}
 use Rattle.vr_replica.specs.Standing.{StandsFor}
 use Rattle.vr_threads.specs.Working.{HasStarted, StandsDown}
-use Rattle.laws_threads.specs.CodeMoves.{CodeMove, Seat, given_with, IsUnused, IsNextStart}
-use Rattle.laws_threads.specs.OwnMoves.{OwnMove, Started, Stepped, AreOwnMoves, EachInOneOrder}
+use Rattle.laws_threads.specs.CodeMoves.{CodeMove, Seat, runs, killed, given_with, IsUnused, IsNextStart}
+use Rattle.laws_threads.specs.OwnMoves.{OwnMove, Started, Stepped, Died, AreOwnMoves, EachInOneOrder}
 use Rattle.laws_threads.specs.MachineMoves.{CountsAsJudged, Rises, counted_with, IsMachineStart, AreMachineMoves, MachinesInOneOrder}
 use Rattle.laws_threads.proofs.Tables.{put_other}
 
@@ -80,12 +80,12 @@ module _ {S : Type 0} (loads : S → Option Stored → S → Type 0) (saves : S 
   own i [] seat given counted up h = tt
   own i (Started q found left number starts ∷ ms) seat given counted up h = (
     h.0,
-    next_start i seat found left q number starts h.0 h.1,
+    record { knowing = h.1.knowing; start = h.1.start; next = next_start i seat h.1.knowing left q number starts h.1.start h.1.next },
     elim (nonce_is i found left q number starts h.0) [
       | inl is ↦ subst (λ o. IsUnused given o) (sym is) tt
       | inr is ↦ subst (λ o. IsUnused given o) (sym is) (unused given counted starts up h.2)
     ],
-    own i ms (Some (record { replica = q; store = left; waits = number })) (given_with given number) (counted_with counted starts)
+    own i ms (Some (runs q left number)) (given_with given number) (counted_with counted starts)
         (elim (nonce_is i found left q number starts h.0) [
           | inl is ↦ subst (λ o. UpTo (given_with given o) (counted_with counted starts)) (sym is) (more_counted given counted starts up h.2)
           | inr is ↦ subst (λ o. UpTo (given_with given o) (counted_with counted starts)) (sym is) (all_counted given counted starts up h.2)
@@ -93,7 +93,9 @@ module _ {S : Type 0} (loads : S → Option Stored → S → Type 0) (saves : S 
         h.3,
   )
   own i (Stepped e r left result ∷ ms) seat given counted up h =
-      (h.0, h.1, h.2, h.3, own i ms (Some (record { replica = r; store = left; waits = None })) given counted up h.4)
+      (h.0, h.1, h.2, h.3, h.4, h.5, own i ms (Some (runs r left None)) given counted up h.6)
+  own i (Died e left ∷ ms) seat given counted up h =
+      (h.0, h.1, h.2, h.3, h.4, h.5, own i ms (Some (killed left)) given counted up h.6)
 
   pub each_own : (ms : List (CodeMove S)) → MachinesInOneOrder loads saves faults begins holds is_first g ms → EachInOneOrder loads saves faults begins holds g ms
   each_own ms each = record {

@@ -13,8 +13,8 @@ use Rattle.vr_model.specs.Replicas.{put}
 use Rattle.vr_model.specs.World.{ClientState}
 use Rattle.vr_model.specs.Steps.{ClientStep, AreClientSteps, client_after, first_client}
 use Rattle.vr_serving.specs.Serving.{sends_in}
-use Rattle.laws_threads.specs.CodeMoves.{CodeMove, Starts, Steps, Serves, Seat, given_with, TakesHanded, AreCodeMoves, AreFromTheStart}
-use Rattle.laws_threads.specs.OwnMoves.{OwnMove, Started, Stepped, MayTake, own_moves, own_steps, EventHanded, AllTakeHanded, AreOwnMoves, EachInOneOrder}
+use Rattle.laws_threads.specs.CodeMoves.{CodeMove, Starts, Steps, Dies, Serves, Seat, runs, killed, given_with, TakesHanded, AreCodeMoves, AreFromTheStart}
+use Rattle.laws_threads.specs.OwnMoves.{OwnMove, Started, Stepped, Died, MayTake, own_moves, own_steps, EventHanded, AllTakeHanded, AreOwnMoves, EachInOneOrder}
 use Rattle.laws_threads.proofs.Tables.{put_same, put_other}
 
 takes_handed : (g : Group) (sent : List code.Message) (i place : ℕ) (waits : Option ℕ) (e : Event) → MayTake waits e → EventHanded g sent i e place → TakesHanded sent i waits e place
@@ -48,6 +48,14 @@ module _ {S : Type 0} (loads : S → Option Stored → S → Type 0) (saves : S 
     | inr ne ↦ own_there j i (seats j) (put seats i seat j) (given j) (put given i more j) x (xs j) ne (put_other seats i seat j ne) (put_other given i more j ne) (own l)
   ]
 
+  -- likewise of a move that gives no nonce
+  own_still : (i j : ℕ) (seats : ℕ → Option (Seat S)) (given : ℕ → ℕ → Bool) (seat : Option (Seat S)) (x : OwnMove S) (xs : ℕ → List (OwnMove S)) → ((k : ℕ) → k < group_size g.f → Own k (seats k) (given k) (cond (eqb k i) (x ∷ xs k) (xs k))) → Own i seat (given i) (xs i)
+      → j < group_size g.f → Own j (put seats i seat j) (given j) (xs j)
+  own_still i j seats given seat x xs own here l = subst (λ u. Own j (put seats i seat j) u (xs j)) same_given (own_next j i seats given seat (given i) x xs (own j) here l)
+    where
+      same_given : put given i (given i) j ≡ given j
+      same_given = elim (cases_eq j i) [ inl e ↦ put_same given i (given i) j e ∙ ap given (sym e) | inr ne ↦ put_other given i (given i) j ne ]
+
   empty_next : (j i : ℕ) (x : OwnMove S) (xs : List (OwnMove S)) → i < group_size g.f → group_size g.f ≤ j → cond (eqb j i) (x ∷ xs) xs ≡ [] → xs ≡ []
   empty_next j i x xs l le none = elim (cases_eq j i) [
     | inl e ↦ absurd (let wrong : x ∷ xs ≡ [] = ap (λ b. cond b (x ∷ xs) xs) (sym (eq-eqb j i e)) ∙ none in cc)
@@ -64,7 +72,7 @@ module _ {S : Type 0} (loads : S → Option Stored → S → Type 0) (saves : S 
       let x : OwnMove S = Started q found left number starts in
       let l : i < group_size g.f = low i x (own_moves i ms) (none i) in
       let h : Own i (seats i) (given i) (x ∷ own_moves i ms) = own_here i (seats i) (given i) x (own_moves i ms) (own i l) in
-      let seat : Option (Seat S) = Some (record { replica = q; store = left; waits = number }) in (
+      let seat : Option (Seat S) = Some (runs q left number) in (
         l,
         h.0,
         h.1,
@@ -76,18 +84,32 @@ module _ {S : Type 0} (loads : S → Option Stored → S → Type 0) (saves : S 
       let x : OwnMove S = Stepped e r left result in
       let l : i < group_size g.f = low i x (own_moves i ms) (none i) in
       let h : Own i (seats i) (given i) (x ∷ own_moves i ms) = own_here i (seats i) (given i) x (own_moves i ms) (own i l) in
-      let seat : Option (Seat S) = Some (record { replica = r; store = left; waits = None }) in (
+      let seat : Option (Seat S) = Some (runs r left None) in (
         h.0,
-        l,
         h.1,
         h.2,
-        takes_handed g sent i place h.0.waits e h.3 taken.0,
+        l,
+        h.3,
+        h.4,
+        takes_handed g sent i place h.2 e h.5 taken.0,
         ordered ms (put seats i seat) given clients (sent ++ sends_in result)
-            (λ j lj. subst (λ u. Own j (put seats i seat j) u (own_moves j ms)) (same_given j) (own_next j i seats given seat (given i) x (λ k. own_moves k ms) (own j) h.4 lj)) (λ j le. empty_next j i x (own_moves j ms) l le (none j le)) served taken.1,
+            (λ j lj. own_still i j seats given seat x (λ k. own_moves k ms) own h.6 lj) (λ j le. empty_next j i x (own_moves j ms) l le (none j le)) served taken.1,
       )
-    where
-      same_given : (j : ℕ) → put given i (given i) j ≡ given j
-      same_given j = elim (cases_eq j i) [ inl e ↦ put_same given i (given i) j e ∙ ap given (sym e) | inr ne ↦ put_other given i (given i) j ne ]
+  ordered (Dies i e place left ∷ ms) seats given clients sent own none served taken =
+      let x : OwnMove S = Died e left in
+      let l : i < group_size g.f = low i x (own_moves i ms) (none i) in
+      let h : Own i (seats i) (given i) (x ∷ own_moves i ms) = own_here i (seats i) (given i) x (own_moves i ms) (own i l) in
+      let seat : Option (Seat S) = Some (killed left) in (
+        h.0,
+        h.1,
+        h.2,
+        l,
+        h.3,
+        h.4,
+        takes_handed g sent i place h.2 e h.5 taken.0,
+        ordered ms (put seats i seat) given clients sent
+            (λ j lj. own_still i j seats given seat x (λ k. own_moves k ms) own h.6 lj) (λ j le. empty_next j i x (own_moves j ms) l le (none j le)) served taken.1,
+      )
   ordered (Serves c d out place ∷ ms) seats given clients sent own none served taken =
       let h : Served c (clients c) (d ∷ own_steps c ms) = subst (λ b. Served c (clients c) (cond b (d ∷ own_steps c ms) (own_steps c ms))) (eq-eqb c c refl) (served c) in
       let k : ClientState Command = client_after g.f c g.answer (clients c) d.action in (

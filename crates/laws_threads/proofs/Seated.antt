@@ -11,10 +11,13 @@ use Rattle.vr_model.specs.Messages.{Message}
 use Rattle.vr_model.specs.Replicas.{is_down, is_normal, put}
 use Rattle.vr_model.specs.World.{ClientState}
 use Rattle.vr_model.specs.Steps.{first_client}
-use Rattle.vr_model.specs.Stores.{Observation, KnownState, next, first_known_state}
+use Rattle.vr_model.specs.Stores.{Observation, KnownState, MayShow, next, first_known_state}
+use Rattle.vr_model.specs.StandsFor.{AllStandFrom}
+use Rattle.vr_core.specs.StandsFor.{IsSavedAs}
+use Rattle.vr_replica.specs.declared.state.Replica as code_replica
 use Rattle.vr_replica.specs.Standing.{StandsFor}
 use Rattle.laws_threads.specs.ObservedMoves.{ObservedMove, ByReplica, said, all_said, ObservationTakesSent}
-use Rattle.laws_threads.specs.ObservedMoves.{AreFromTheFirst, knowns_after, WasKnownLog, IsShownAs}
+use Rattle.laws_threads.specs.ObservedMoves.{AreFromTheFirst, knowns_after, WasKnownLog}
 use Rattle.laws_threads.specs.CodeMoves.{Seat}
 use Rattle.laws_threads.proofs.Tables.{put_same, put_other, put_cases}
 use Rattle.laws_threads.proofs.Appending.{clients_after, knowns_append, clients_append, said_append, right_append}
@@ -24,9 +27,9 @@ module _ {S : Type 0} (holds : S → (ℕ → Bool) → Type 0) (g : Group) wher
   abbrev pub known : List (ObservedMove Command Answer) → ℕ → KnownState Command
   known os i = knowns_after g.f g.answer (λ i. first_known_state) os i
 
-  -- what runs of a replica, by what is known of it
+  -- what there is of a replica, by what is known of it
   pub record IsSeated (i : ℕ) (k : KnownState Command) (given : ℕ → Bool) (seat : Seat S) : Type 0 where
-    pub stands : StandsFor seat.replica (member g i) k.replica
+    pub stands : (q : code_replica.Replica) → seat.replica ≡ Some q → StandsFor q (member g i) k.replica
     pub held : holds seat.store k.may_keep
     pub waits : (n : ℕ) → seat.waits ≡ Some n → (is_down k.replica.status ≡ true) × (k.used n ≡ false) × (given n ≡ true)
 
@@ -83,16 +86,16 @@ module _ {S : Type 0} (holds : S → (ℕ → Bool) → Type 0) (g : Group) wher
     still_said : all_said later ≡ all_said os ++ said o
     still_said = said_append g.f g.answer os (ByReplica i o place ∷ []) ∙ ap (λ (xs : List (Message Command Answer)). all_said os ++ xs) (append-nil (said o))
 
-    pub one_more : IsShownAs (member g i) (known os i) o seat.replica out → ObservationTakesSent (all_said os) i o place → holds seat.store now.may_keep
+    pub one_more : MayShow g.f i g.answer (known os i) o → ((q : code_replica.Replica) → seat.replica ≡ Some q → StandsFor q (member g i) now.replica) → AllStandFrom IsSavedAs g now.replica out (said o) → ObservationTakesSent (all_said os) i o place → holds seat.store now.may_keep
         → ((n : ℕ) → seat.waits ≡ Some n → (is_down now.replica.status ≡ true) × (now.used n ≡ false) × (after i n ≡ true))
         → ((x : ℕ) → now.used x ≡ true → after i x ≡ true) → ((j : ℕ) → (j ≡ i → ⊥) → after j ≡ given j)
         → At (put seats i (Some seat)) after clients (sent ++ out) later
-    one_more shown takes held waits used others =
-        let sits : IsSeated i now (after i) seat = record { stands = shown.stands; held = held; waits = waits } in
+    one_more may stands says takes held waits used others =
+        let sits : IsSeated i now (after i) seat = record { stands = stands; held = held; waits = waits } in
         let was : is_normal now.replica.status ≡ true → WasKnownLog g.f g.answer later now.replica.view now.replica.log =
         subst (λ (k : KnownState Command). is_normal k.replica.status ≡ true → WasKnownLog g.f g.answer later k.replica.view k.replica.log) known_here (was_last g.f g.answer later i) in
         record {
-          right = right_append g.f g.answer (λ q. first_known_state) (λ c. first_client) [] os (ByReplica i o place ∷ []) at.right (low, shown.may, takes, tt);
+          right = right_append g.f g.answer (λ q. first_known_state) (λ c. first_client) [] os (ByReplica i o place ∷ []) at.right (low, may, takes, tt);
           sits = λ j. put_cases seats i (Some seat) j (λ x. MaySit j (known later j) (after j) x)
               (λ e. subst (λ q. IsSeated q (known later q) (after q) seat) (sym e) (subst (λ (k : KnownState Command). IsSeated i k (after i) seat) (sym known_here) sits))
               (λ ne. sits_other j (known os j) (known later j) (given j) (after j) (seats j) (known_there j ne) (others j ne) (at.sits j));
@@ -103,5 +106,5 @@ module _ {S : Type 0} (holds : S → (ℕ → Bool) → Type 0) (g : Group) wher
           clients_at = λ c. clients_append g.f g.answer (λ c. first_client) os (ByReplica i o place ∷ []) c ∙ at.clients_at c;
           handed = subst (λ (ms : List (Message Command Answer)). AllStandIn g later (sent ++ out) ms) (sym still_said)
               (all_append g later sent out (all_said os) (said o) (all_later g os later (was_still g.f g.answer os (ByReplica i o place ∷ [])) sent (all_said os) at.handed)
-              (sent_stand g later now.replica out (said o) was shown.says));
+              (sent_stand g later now.replica out (said o) was says));
         }

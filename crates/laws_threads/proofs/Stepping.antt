@@ -76,7 +76,35 @@ module _ {S : Type 0} (loads : S → Option Stored → S → Type 0) (saves : S 
     | inr saved ↦ keeps.more t (only u) (put k u true) (keeps.saves s t k u h saved) (only_more k u)
   ]
 
+  adds_more : (k : ℕ → Bool) (o : Option ℕ) (v : ℕ) → k v ≡ true → adds k o v ≡ true
+  adds_more k None v e = e
+  adds_more k (Some u) v e = put_more k u v e
+
   module _ (m : Membership) (r : Replica) (s t : S) (k : KnownState Command) where
+    -- whatever comes of a step, its store holds no other view than before and that which its rule saves
+    would_hold : (x : Input Command Answer) (result : StepResult) → Acted loads saves IsSavedAs (StandsFor r m) m k.replica s t (acts m.f m.number m.answer k.replica x) result → holds s k.may_keep
+        → holds t (adds k.may_keep (acts m.f m.number m.answer k.replica x).saves)
+    would_hold x (Ok sends) h kept = added s t k.may_keep (acts m.f m.number m.answer k.replica x).saves (inr h.saved) kept
+    would_hold x (Err fault.Memory) h kept = added s t k.may_keep (acts m.f m.number m.answer k.replica x).saves h.saved kept
+    would_hold x (Err fault.Store) h kept = subst (λ o. holds t (adds k.may_keep o)) (sym h.saves) (keeps.save_failed s t k.may_keep h.view kept h.failed)
+    would_hold x (Err fault.Down) h kept = added s t k.may_keep (acts m.f m.number m.answer k.replica x).saves (inl h.1.store) kept
+
+    pub killed_holds : (left : S) (x : Input Command Answer) (result : StepResult) → Acted loads saves IsSavedAs (StandsFor r m) m k.replica s t (acts m.f m.number m.answer k.replica x) result → holds s k.may_keep
+        → ((l : ℕ → Bool) → holds s l → holds t l → holds left l) → holds left (adds k.may_keep (acts m.f m.number m.answer k.replica x).saves)
+    killed_holds left x result h kept no_other =
+        let o : Option ℕ = (acts m.f m.number m.answer k.replica x).saves in
+        no_other (adds k.may_keep o) (keeps.more s k.may_keep (adds k.may_keep o) kept (adds_more k.may_keep o)) (would_hold x result h kept)
+
+    -- a restart holds no more behind it
+    pub restart_held : (n : ℕ) (result : StepResult) → step.Restarted loads saves IsSavedAs (StandsFor r m) m k.replica s t n result → holds s k.may_keep → holds t k.may_keep
+    restart_held n (Ok sends) h kept = let loaded = keeps.loads s t k.may_keep h.stored kept h.loaded in keeps.more t (only h.stored.view) k.may_keep loaded.1 (only_of k.may_keep h.stored.view loaded.0)
+    restart_held n (Err fault.Memory) h kept = elim (h.loaded) [
+      | inl same ↦ subst (λ u. holds u k.may_keep) (sym same) kept
+      | inr l ↦ (let loaded = keeps.loads s t k.may_keep l.0 kept l.1 in keeps.more t (only l.0.view) k.may_keep loaded.1 (only_of k.may_keep l.0.view loaded.0))
+    ]
+    restart_held n (Err fault.Store) h kept = keeps.load_failed s t k.may_keep kept h.failed
+    restart_held n (Err fault.Down) h kept = absurd h
+
     pub held : (x : Input Command Answer) (result : StepResult) → Acted loads saves IsSavedAs (StandsFor r m) m k.replica s t (acts m.f m.number m.answer k.replica x) result → holds s k.may_keep
         → holds t (next m.f m.number m.answer k (observation_of m k.replica x result)).may_keep
     held x (Ok sends) h kept = settled s t k.may_keep (acts m.f m.number m.answer k.replica x).saves h.saved kept

@@ -1,5 +1,5 @@
--- The moves of a group's code, in one order: starts of replicas from their stores, steps of replicas, and steps of
--- clients.
+-- The moves of a group's code, in one order: starts of replicas from their stores, steps of replicas, the one within
+-- which a process is killed, and steps of clients.
 use Rattle.std.specs.Prelude.{◌≡◌, ℕ, ◌<◌, Bool, true, false, List, [], ◌∷◌, ◌++◌, Option, Some, None, slice_get}
 use Rattle.il_model.specs.declared.command.Command.{Command}
 use Rattle.il_model.specs.declared.command.Answer.{Answer}
@@ -27,17 +27,26 @@ use Rattle.vr_serving.specs.Serving.{StepsTo, sends_in}
 use Rattle.vr_threads.specs.Working.{HasStarted}
 use Rattle.laws_threads.specs.ObservedMoves.{ObservedMove, ByReplica, ByClient, IsOneRun, known_at, all_said}
 
--- One move. Where a message is taken, place is where it stands among all that were handed out before.
+-- One move. Where a message is taken, place is where it stands among all that were handed out before. A replica dies
+-- where its process is killed within the step on an event, and leaves this store.
 pub data CodeMove (S : Type 0) : Type 0 where
   Starts : (replica : ℕ) (comes : Replica) (found left : S) (nonce starts : Option ℕ) → CodeMove S
   Steps : (replica : ℕ) (event : Event) (place : ℕ) (becomes : Replica) (left : S) (result : StepResult) → CodeMove S
+  Dies : (replica : ℕ) (event : Event) (place : ℕ) (left : S) → CodeMove S
   Serves : (client : ℕ) (client_step : ClientStep Command Answer) (out : List code.Message) (place : ℕ) → CodeMove S
 
--- what runs of a replica: the value, its store, and the nonce that it has yet to come up with
+-- what there is of a replica that was started: the value, or none where its process was killed; its store; and the
+-- nonce that it has yet to come up with
 pub record Seat (S : Type 0) : Type 0 where
-  pub replica : Replica
+  pub replica : Option Replica
   pub store : S
   pub waits : Option ℕ
+
+abbrev pub runs : {S : Type 0} → Replica → S → Option ℕ → Seat S
+runs q s waits = record { replica = Some q; store = s; waits = waits }
+
+abbrev pub killed : {S : Type 0} → S → Seat S
+killed s = record { replica = None; store = s; waits = None }
 
 -- the nonces that were given, with this one
 abbrev pub given_with : (ℕ → Bool) → Option ℕ → ℕ → Bool
@@ -62,6 +71,17 @@ HearsHanded sent c (Hears m) place = (a : code.Message) × (slice_get sent place
     × ((l : List (Request Command)) → message_with l a ≡ m)
 HearsHanded sent c _ place = Unit {0}
 
+-- A process that was killed within a step that would have come to this leaves a store which holds no view but those
+-- that it held before the step and those that it would have held behind it.
+pub record KilledWithin {S : Type 0} (load_gives : S → Option Stored → S → Type 0)
+    (save_gives : S → ℕ → Bool → S → Type 0) (faults : S → ℕ) (holds : S → (ℕ → Bool) → Type 0) (q : Replica) (s : S)
+    (e : Event) (left : S) : Type 0 where
+  pub becomes : Replica
+  pub saved : S
+  pub result : StepResult
+  pub step : StepsTo load_gives save_gives faults q s e becomes saved result
+  pub holds_no_other : (k : ℕ → Bool) → holds s k → holds saved k → holds left k
+
 -- the stores of one kind, and the group
 module _ {S : Type 0} (load_gives : S → Option Stored → S → Type 0) (save_gives : S → ℕ → Bool → S → Type 0)
     (faults : S → ℕ) (begin_gives : S → Option Stored → S → Type 0) (holds : S → (ℕ → Bool) → Type 0)
@@ -73,21 +93,31 @@ module _ {S : Type 0} (load_gives : S → Option Stored → S → Type 0) (save_
   IsNextStart (Some seat) found starts =
       ((k : ℕ → Bool) → holds seat.store k → holds found k) × (starts ≡ Some 1 → ⊥)
 
+  -- A start that leaves this is also one of a store that holds what was left. The store that was opened for it need not
+  -- know by then what its file has.
+  pub record StartsAsLeft (i : ℕ) (seat : Option (Seat S)) (left : S) (q : Replica) (nonce starts : Option ℕ) : Type 0
+    where
+      pub knowing : S
+      pub start : HasStarted begin_gives (member g i) knowing left q nonce starts
+      pub next : IsNextStart seat knowing starts
+
   -- each move is by the contract of the code, from where its replica or client is by then
   abbrev pub AreCodeMoves : (ℕ → Option (Seat S)) → (ℕ → ℕ → Bool) → (ℕ → ClientState Command) → List code.Message
       → List (CodeMove S) → Type 0
   AreCodeMoves seats given clients sent [] = Unit {0}
   AreCodeMoves seats given clients sent (Starts i q found left nonce starts ∷ ms) =
       (i < group_size g.f) × HasStarted begin_gives (member g i) found left q nonce starts
-      × IsNextStart (seats i) found starts × IsUnused (given i) nonce
-      × AreCodeMoves (put seats i (Some (record { replica = q; store = left; waits = nonce })))
-      (put given i (given_with (given i) nonce)) clients sent ms
+      × StartsAsLeft i (seats i) left q nonce starts × IsUnused (given i) nonce
+      × AreCodeMoves (put seats i (Some (runs q left nonce))) (put given i (given_with (given i) nonce)) clients sent
+      ms
   AreCodeMoves seats given clients sent (Steps i e place r left result ∷ ms) =
-      (seat : Seat S) × (i < group_size g.f) × (seats i ≡ Some seat)
-      × StepsTo load_gives save_gives faults seat.replica seat.store e r left result
-      × TakesHanded sent i seat.waits e place
-      × AreCodeMoves (put seats i (Some (record { replica = r; store = left; waits = None }))) given clients
-      (sent ++ sends_in result) ms
+      (q : Replica) × (s : S) × (waits : Option ℕ) × (i < group_size g.f) × (seats i ≡ Some (runs q s waits))
+      × StepsTo load_gives save_gives faults q s e r left result × TakesHanded sent i waits e place
+      × AreCodeMoves (put seats i (Some (runs r left None))) given clients (sent ++ sends_in result) ms
+  AreCodeMoves seats given clients sent (Dies i e place left ∷ ms) =
+      (q : Replica) × (s : S) × (waits : Option ℕ) × (i < group_size g.f) × (seats i ≡ Some (runs q s waits))
+      × KilledWithin load_gives save_gives faults holds q s e left × TakesHanded sent i waits e place
+      × AreCodeMoves (put seats i (Some (killed left))) given clients sent ms
   AreCodeMoves seats given clients sent (Serves c d out place ∷ ms) =
       MayClient g.f c g.answer (clients c) d.action × (d.sends ≡ client_sends g.f c g.answer (clients c) d.action)
       × AllStand IsSavedAs g out d.sends × HearsHanded sent c d.action place
@@ -102,14 +132,15 @@ module _ {S : Type 0} where
   abbrev pub seats_after : (ℕ → Option (Seat S)) → List (CodeMove S) → ℕ → Option (Seat S)
   seats_after seats [] = seats
   seats_after seats (Starts i q found left nonce starts ∷ ms) =
-      seats_after (put seats i (Some (record { replica = q; store = left; waits = nonce }))) ms
-  seats_after seats (Steps i e place r left result ∷ ms) =
-      seats_after (put seats i (Some (record { replica = r; store = left; waits = None }))) ms
+      seats_after (put seats i (Some (runs q left nonce))) ms
+  seats_after seats (Steps i e place r left result ∷ ms) = seats_after (put seats i (Some (runs r left None))) ms
+  seats_after seats (Dies i e place left ∷ ms) = seats_after (put seats i (Some (killed left))) ms
   seats_after seats (Serves c d out place ∷ ms) = seats_after seats ms
 
   abbrev pub handed_by : CodeMove S → List code.Message
   handed_by (Starts i q found left number starts) = []
   handed_by (Steps i e place r left result) = sends_in result
+  handed_by (Dies i e place left) = []
   handed_by (Serves c d out place) = out
 
   -- all that was handed out, in order
@@ -122,6 +153,7 @@ module _ {S : Type 0} where
   clients_in [] = []
   clients_in (Starts i q found left number starts ∷ ms) = clients_in ms
   clients_in (Steps i e place r left result ∷ ms) = clients_in ms
+  clients_in (Dies i e place left ∷ ms) = clients_in ms
   clients_in (Serves c d out place ∷ ms) = (c, d) ∷ clients_in ms
 
 abbrev pub observed_clients : List (ObservedMove Command Answer) → List (ℕ × ClientStep Command Answer)
@@ -136,7 +168,7 @@ pub record AreOneRun {S : Type 0} (g : Group) (early late : List (CodeMove S)) :
   pub first : List (ObservedMove Command Answer)
   pub second : List (ObservedMove Command Answer)
   pub run : IsOneRun g.f g.answer first second
-  pub replicas : (i : ℕ) (seat : Seat S) → seats_after (λ i. None) early i ≡ Some seat
-      → StandsFor seat.replica (member g i) (known_at g.f g.answer first i)
+  pub replicas : (i : ℕ) (seat : Seat S) (q : Replica) → seats_after (λ i. None) early i ≡ Some seat
+      → seat.replica ≡ Some q → StandsFor q (member g i) (known_at g.f g.answer first i)
   pub messages : AllStand IsSavedAs g (all_handed early) (all_said first)
   pub clients : observed_clients first ≡ clients_in early

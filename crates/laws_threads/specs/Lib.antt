@@ -3,3 +3,7 @@ pub mod KeptViews
 pub mod CodeMoves
 pub mod OwnMoves
 pub mod MachineMoves
+pub mod SilentMoves
+pub mod ClientStarts
+pub mod OpenedStores
+pub mod Ran

@@ -1,4 +1,5 @@
--- A machine's own list: the starts of its process, one after another, and the steps of its replica behind each.
+-- A machine's own list: the starts of its processes, one after another, and the steps of its replica behind each, the
+-- last of which may be one within which the process was killed.
 use Rattle.std.specs.Prelude.{◌≡◌, ℕ, ◌<◌, ◌≤◌, ◌==◌, Bool, false, List, [], ◌∷◌, Option, Some, None}
 use Rattle.vr_model.specs.declared.event.Stored.{Stored}
 use Rattle.vr_model.specs.Groups.{group_size}
@@ -9,8 +10,9 @@ use Rattle.vr_threads.specs.declared.file_store.Held.{Held}
 use Rattle.vr_threads.specs.Keeping.{IsOneOf}
 use Rattle.vr_serving.specs.Serving.{StepsTo}
 use Rattle.vr_threads.specs.Working.{HasStarted}
-use Rattle.laws_threads.specs.CodeMoves.{CodeMove, Seat}
-use Rattle.laws_threads.specs.OwnMoves.{OwnMove, Started, Stepped, MayTake, AllTakeHanded, own_moves, own_steps}
+use Rattle.vr_replica.specs.declared.state.Replica.{Replica}
+use Rattle.laws_threads.specs.CodeMoves.{CodeMove, Seat, runs, killed, KilledWithin}
+use Rattle.laws_threads.specs.OwnMoves.{OwnMove, Started, Stepped, Died, MayTake, AllTakeHanded, own_moves, own_steps}
 
 -- a start is the first just where that was judged
 abbrev pub CountsAsJudged : {S : Type 0} → (S → Option Stored → S → Type 0) → (S → Bool) → Type 0
@@ -45,16 +47,28 @@ module _ {S : Type 0} (load_gives : S → Option Stored → S → Type 0) (save_
   IsMachineStart (Some seat) found =
       ((k : ℕ → Bool) → holds seat.store k → holds found k) × (is_first found ≡ false)
 
+  -- such a start is also one of a store that was judged so, and holds what was left
+  pub record MachineStartsAsLeft (i : ℕ) (seat : Option (Seat S)) (left : S) (q : Replica) (nonce starts : Option ℕ)
+      : Type 0 where
+    pub knowing : S
+    pub start : HasStarted begin_gives (member g i) knowing left q nonce starts
+    pub next : IsMachineStart seat knowing
+
   -- the list of the machine of replica i is right by itself, where so many starts were counted before
   abbrev pub AreMachineMoves : ℕ → Option (Seat S) → ℕ → List (OwnMove S) → Type 0
   AreMachineMoves i seat counted [] = Unit {0}
   AreMachineMoves i seat counted (Started q found left nonce starts ∷ ms) =
-      HasStarted begin_gives (member g i) found left q nonce starts × IsMachineStart seat found × Rises counted starts
-      × AreMachineMoves i (Some (record { replica = q; store = left; waits = nonce })) (counted_with counted starts) ms
+      HasStarted begin_gives (member g i) found left q nonce starts × MachineStartsAsLeft i seat left q nonce starts
+      × Rises counted starts
+      × AreMachineMoves i (Some (runs q left nonce)) (counted_with counted starts) ms
   AreMachineMoves i seat counted (Stepped e r left result ∷ ms) =
-      (from : Seat S) × (seat ≡ Some from)
-      × StepsTo load_gives save_gives faults from.replica from.store e r left result × MayTake from.waits e
-      × AreMachineMoves i (Some (record { replica = r; store = left; waits = None })) counted ms
+      (q : Replica) × (s : S) × (waits : Option ℕ) × (seat ≡ Some (runs q s waits))
+      × StepsTo load_gives save_gives faults q s e r left result × MayTake waits e
+      × AreMachineMoves i (Some (runs r left None)) counted ms
+  AreMachineMoves i seat counted (Died e left ∷ ms) =
+      (q : Replica) × (s : S) × (waits : Option ℕ) × (seat ≡ Some (runs q s waits))
+      × KilledWithin load_gives save_gives faults holds q s e left × MayTake waits e
+      × AreMachineMoves i (Some (killed left)) counted ms
 
   -- each machine's list is right by itself, from before its first start, and so is each client's; and the moves are
   -- these in one order
