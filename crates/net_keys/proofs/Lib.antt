@@ -1,0 +1,4 @@
+pub mod Texts
+pub mod Alike
+pub mod Openings
+pub mod Readings
