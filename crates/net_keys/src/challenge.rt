@@ -43,6 +43,7 @@ pub enum ChallengeFault {
     /// It's a hello of a group that has no key.
     #[error("no key")]
     NoKey,
+    /// It begins as one does, and is of another version.
     #[error("another version")]
     OtherVersion,
     /// This end's own nonce came back.

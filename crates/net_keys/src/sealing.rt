@@ -14,7 +14,9 @@ pub const SUM: usize = 16;
 /// An end of a connection, by who began it.
 #[derive(Clone, Copy, Debug, PartialEq, Eq)]
 pub enum Side {
+    /// It dialled the other end.
     Dialler,
+    /// It was dialled.
     Listener,
 }
 
