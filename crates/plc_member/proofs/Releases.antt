@@ -1,18 +1,12 @@
--- What a node takes of a message as released is what that releases, and the trace is told that.
-use Rattle.std.proofs.Common.{◌≡◌, ℕ, Bool, true, false, Option, Some, None, refl, subst}
+-- What the trace is told of a message that a node takes as released.
+use Rattle.std.proofs.Common.{◌≡◌, ℕ, Option, subst}
 use Rattle.il_model.specs.declared.command.Command.{Command}
 use Rattle.il_model.specs.declared.command.Answer.{Answer}
 use Rattle.vr_model.specs.Messages.{Body}
 use Rattle.io_image.specs.declared.release.Release.{Release}
 use Rattle.plc_trace.specs.declared.trace.Trace.{Trace}
-use Rattle.plc_node_core.specs.Scanning.{answered_by}
-use Rattle.plc_member.specs.Driving.{TracesRelease, released_in, traced_by}
+use Rattle.plc_member.specs.Driving.{TracesRelease, traced_by}
 use Rattle.plc_member.specs.declared.scans.Entered.{Entered}
-
-pub released_back : (release : Option Release) (is_answered shows : Bool) → released_in (answered_by release is_answered shows) ≡ release
-released_back (Some release) is_answered shows = refl
-released_back None true shows = refl
-released_back None false shows = refl
 
 -- by a tracer of the same number and epoch, into the same trace
 pub traced_back : (taken release : Option Release) → taken ≡ release → (number number' epoch epoch' : ℕ) → number' ≡ number → epoch' ≡ epoch → (before before' after : Option Trace) → before' ≡ before → (body : Body Command Answer) → ((x : Option Entered) × TracesRelease taken (traced_by number' epoch' x body) before' after) → (x : Option Entered) × TracesRelease release (traced_by number epoch x body) before after

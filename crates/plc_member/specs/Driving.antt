@@ -10,8 +10,6 @@ use Rattle.io_image.specs.Book.{Book}
 use Rattle.io_image.specs.declared.release.Release.{Release}
 use Rattle.plc_machine.specs.declared.driver.MachineDriver.{MachineDriver}
 use Rattle.plc_machine.specs.Driving.{SubmitsScan}
-use Rattle.plc_node_core.specs.declared.scan_client.Answered.{Answered}
-use Rattle.plc_node_core.specs.declared.scan_client.Answered.TheVariants as answers
 use Rattle.plc_trace.specs.declared.line.Placed.{Placed}
 use Rattle.plc_trace.specs.declared.line.Traced.{Traced}
 use Rattle.plc_trace.specs.declared.trace.Trace.{Trace}
@@ -35,12 +33,6 @@ MayScan a b = (b ≡ a) ⊎ HasScanned a b
 abbrev pub Publishes : Option Release → List Release → List Release → Type 0
 Publishes None old new = new ≡ old
 Publishes (Some release) old new = new ≡ old ++ release ∷ []
-
--- what a message releases, by what a node makes of it
-abbrev pub released_in : Answered → Option Release
-released_in (answers.Released release) = Some release
-released_in (answers.Held shows) = None
-released_in answers.Nothing = None
 
 -- ---- whether what was known of a log's last scan still holds, where no entry that is kept is a scan
 

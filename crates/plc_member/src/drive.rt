@@ -8,7 +8,7 @@ ghost use Rattle.vr_model.specs.StandsFor.{body_with};
 ghost use Rattle.io_driver.specs.Driver.{release_by};
 ghost use Rattle.plc_node_core.specs.Going.{NodeLooks};
 ghost use Rattle.plc_node_core.specs.declared.node.ShownReplica.{ShownReplica as Replica};
-ghost use Rattle.plc_member.specs.Driving.{MayScan, Publishes, TracesRelease, released_in, traced_by};
+ghost use Rattle.plc_member.specs.Driving.{MayScan, Publishes, TracesRelease, traced_by};
 ghost use Rattle.plc_member.specs.Keeping.{failed_of, parting_of};
 ghost use Rattle.plc_member.specs.Watching.{is_open};
 ghost use Rattle.plc_member.specs.declared.scans.Entered.{Entered};
@@ -138,16 +138,6 @@ fn parting_of(ending: Ending, kept: Option<Kept>, number: u8) -> Parting
 /// Whether this opens the port, or closes it.
 fn is_of_port(action: Action) -> bool {
     matches!(action, Action::Open(_) | Action::Close)
-}
-
-/// What a message releases.
-fn released_in(answered: Answered) -> Option<Release>
-    ensures { result ≡ released_in answered }
-{
-    match answered {
-        Answered::Released(release) => Some(release),
-        Answered::Held { .. } | Answered::Nothing => None,
-    }
 }
 
 /// The last scan, as a node sees it.
@@ -509,7 +499,7 @@ where
 
     /// Takes a message of the group. Where it's the reply that is waited for, what it releases is published, and put
     /// into the trace.
-    #[tactic(auto, using(crate::proofs::Releases::released_back))]
+    #[tactic(auto, using(plc_node_core::proofs::Releases::released_back))]
     fn take(&mut self, message: &Message) -> Result<(), Failed>
         ensures published { is_some self.old.node.end ≡ false → OnOk result ((log : List (Entry Asked))
             → Publishes (release_by self.old.node.role.scans.driver.driver.state (body_with log message.now.body))
@@ -522,7 +512,7 @@ where
     {
         let answered = self.node.reply(message);
         self.count(message, answered);
-        self.release(message, released_in(answered))
+        self.release(message, answered.released())
     }
 
     /// Counts the scan that was submitted last, where this message answers it. Where it's held, what is shown, if

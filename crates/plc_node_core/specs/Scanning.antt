@@ -1,5 +1,5 @@
 -- The client by which a node has its group scan: to whom its requests go, when they go again, and when it's woken.
-use Rattle.std.specs.Prelude.{ℕ, ◌-◌, ◌==◌, Bool, false, true, ◌&&◌, ◌||◌, List, Option, Some, None, is_some}
+use Rattle.std.specs.Prelude.{ℕ, ◌-◌, ◌==◌, Bool, false, true, not, ◌&&◌, ◌||◌, List, Option, Some, None, is_some}
 use Rattle.std.specs.Prelude.{nat_le, nat_lt, if◌then◌else◌}
 use Rattle.std.specs.List.{list_any}
 use Rattle.std.specs.Duration.{as_nanos}
@@ -40,6 +40,11 @@ is_replica (parties.Client client) number = false
 abbrev pub goes_to : List Message → ℕ → Bool
 goes_to messages number = list_any (λ message. is_replica message.to number) messages
 
+-- they go to others than the node's own replica; where all are its own, none is another's
+abbrev pub goes_to_others : List Message → Option ℕ → Bool
+goes_to_others messages None = false
+goes_to_others messages (Some number) = not (goes_to messages number)
+
 -- ---- when it goes again
 
 -- in nanoseconds: a period without a reply, and a second at most
@@ -78,3 +83,9 @@ abbrev pub answered_by : Option Release → Bool → Bool → Answered
 answered_by (Some release) is_answered shows = answers.Released release
 answered_by None true shows = answers.Held shows
 answered_by None false shows = answers.Nothing
+
+-- what is released by what a message is made of, if anything is
+abbrev pub released_in : Answered → Option Release
+released_in (answers.Released release) = Some release
+released_in (answers.Held shows) = None
+released_in answers.Nothing = None

@@ -1,6 +1,6 @@
 //! The client by which a node has its group scan.
 
-ghost use Rattle.std.specs.Prelude.{◌≡◌, ◌&&◌, List, IfNone, IfOk, IfSome, OnErr, OnOk, is_some, not, false, true};
+ghost use Rattle.std.specs.Prelude.{◌≡◌, ◌&&◌, List, IfNone, IfOk, IfSome, OnErr, OnOk, is_some, not, false, true, None, Some};
 ghost use Rattle.std.specs.Duration.{as_nanos};
 ghost use Rattle.il_model.specs.declared.command.Command.{Command as Asked};
 ghost use Rattle.io_driver.specs.Driver.{release_by};
@@ -37,11 +37,23 @@ pub enum Answered {
     Held { shows: bool },
 }
 
+impl Answered {
+    /// What is released, if anything is.
+    pub fn released(self) -> Option<Release>
+        ensures { result ≡ spec.released_in self }
+    {
+        match self {
+            Answered::Released(release) => Some(release),
+            Answered::Held { .. } | Answered::Nothing => None,
+        }
+    }
+}
+
 /// The client by which a node has its group scan: what it submits while the node leads, and when it asks again.
 #[derive(Drop)]
 pub struct ScanClient {
-    /// Of the node's own replica.
-    pub(crate) number: u8,
+    /// Of the node's own replica, if its group has others than the node's.
+    pub(crate) own: Option<u8>,
     pub(crate) period: Duration,
     pub(crate) driver: MachineDriver,
     /// When its request was sent last.
@@ -83,6 +95,16 @@ fn goes_to(sends: &Sends, number: u8) -> bool
     ensures { result ≡ spec.goes_to sends.now.items number }
 {
     sends.iter().any(|message| is_replica(message.to, number))
+}
+
+/// Whether these messages go to others than this replica; none is another's, where all are the node's.
+fn goes_to_others(sends: &Sends, own: Option<u8>) -> bool
+    ensures { result ≡ spec.goes_to_others sends.now.items own }
+{
+    match own {
+        Some(number) => !goes_to(sends, number),
+        None => false,
+    }
 }
 
 /// Whether a request was answered that waited before or didn't, and waits now or doesn't.
@@ -140,11 +162,25 @@ fn woken_by(course: Course, waits: bool, latest: Duration) -> Duration
 impl ScanClient {
     /// Of a node whose own replica has this number, and that scans in this period. It has sent nothing.
     pub fn new(number: u8, period: Duration, driver: MachineDriver) -> ScanClient
-        ensures { (result.number ≡ number) × (result.period ≡ period) × (result.driver ≡ driver)
+        ensures { (result.own ≡ Some number) × (result.period ≡ period) × (result.driver ≡ driver)
             × (result.asks_all ≡ false) }
     {
         ScanClient {
-            number,
+            own: Some(number),
+            period,
+            driver,
+            sent: Duration::from_millis(0),
+            asks_all: false,
+        }
+    }
+
+    /// Of a node that has all replicas of its group, and that scans in this period. It has sent nothing.
+    pub fn of_all(period: Duration, driver: MachineDriver) -> ScanClient
+        ensures { (result.own ≡ None) × (result.period ≡ period) × (result.driver ≡ driver)
+            × (result.asks_all ≡ false) }
+    {
+        ScanClient {
+            own: None,
             period,
             driver,
             sent: Duration::from_millis(0),
@@ -187,13 +223,20 @@ impl ScanClient {
         self.is_waiting() && (self.asks_all || self.is_silent(now))
     }
 
+    /// When a scan is due that can be submitted then, where the node leads: at this time at the latest.
+    pub fn woken_by(&self, latest: Duration) -> Duration
+        ensures { as_nanos result
+            ≡ spec.woken_by self.now.driver.course (spec.waits_in self.now.driver) (as_nanos latest) }
+    {
+        woken_by(self.driver.course(), self.driver.is_waiting(), latest)
+    }
+
     /// When it's to look again, unless something comes before that.
     pub fn next_look(&self, now: Duration) -> Duration
         ensures { as_nanos result
             ≡ spec.next_look self.now.driver.course (spec.waits_in self.now.driver) (as_nanos now) }
     {
-        let latest = now.saturating_add(Duration::from_millis(LONGEST_WAIT));
-        woken_by(self.driver.course(), self.driver.is_waiting(), latest)
+        self.woken_by(now.saturating_add(Duration::from_millis(LONGEST_WAIT)))
     }
 
     /// Looks at the own replica, which leads this view, if it leads, and at the last scan of its log.
@@ -220,7 +263,7 @@ impl ScanClient {
         ensures some { IfOk result (λ o. IfSome o (λ sends.
             SubmitsScan now (S.told stage.old) sends.items (S.told stage.new) self.old.driver self.new.driver)) }
         ensures sent { IfOk result (λ o. IfSome o (λ sends.
-            (self.new.sent ≡ now) × (self.new.asks_all ≡ not (spec.goes_to sends.items self.old.number)))) }
+            (self.new.sent ≡ now) × (self.new.asks_all ≡ spec.goes_to_others sends.items self.old.own))) }
         ensures none { IfOk result
             (λ o. IfNone o ((self.new ≡ self.old) × (S.told stage.new ≡ S.told stage.old))) }
         ensures err { OnErr result ((self.new ≡ self.old) × (S.told stage.new ≡ S.told stage.old)) }
@@ -229,7 +272,7 @@ impl ScanClient {
             return Ok(None);
         };
         self.sent = now;
-        self.asks_all = !goes_to(&sends, self.number);
+        self.asks_all = goes_to_others(&sends, self.own);
         Ok(Some(sends))
     }
 
@@ -256,11 +299,14 @@ impl ScanClient {
             (release_by self.old.driver.driver.state (body_with log message.now.body))
             (is_some (answer_by self.old.driver.driver.state (body_with log message.now.body)))
             (is_some self.old.driver.shown) }
+        ensures released { (log : List (Entry Asked))
+            → spec.released_in result ≡ release_by self.old.driver.driver.state (body_with log message.now.body) }
         ensures shown { (log : List (Entry Asked)) → TakesReply
             (release_by self.old.driver.driver.state (body_with log message.now.body))
             (is_some (answer_by self.old.driver.driver.state (body_with log message.now.body)))
             self.old.driver self.new.driver }
         ensures quiet { is_quiet self.old.driver ≡ true → is_quiet self.new.driver ≡ true }
+        ensures course { self.new.driver.course ≡ self.old.driver.course }
         ensures same { (self.new.sent ≡ self.old.sent) × (self.new.asks_all ≡ self.old.asks_all) }
     {
         let waited = self.driver.is_waiting();

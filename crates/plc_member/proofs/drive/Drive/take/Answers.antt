@@ -3,8 +3,9 @@ use Rattle.std.proofs.lemmas.Result.{on_ok_weaker}
 use Rattle.io_driver.specs.Driver.{release_by}
 use Rattle.vr_client.specs.Client.{answer_by}
 use Rattle.vr_model.specs.StandsFor.{body_with}
-use Rattle.plc_member.specs.Driving.{released_in}
-use Rattle.plc_member.proofs.Releases.{released_back, traced_back}
+use Rattle.plc_node_core.specs.Scanning.{released_in}
+use Rattle.plc_node_core.proofs.Releases.{released_back}
+use Rattle.plc_member.proofs.Releases.{traced_back}
 use Rattle.plc_member.proofs.drive.Drive.take.Goals as goal
 
 pub returns-clause-traced : goal.returns-clause-traced
@@ -13,10 +14,10 @@ returns-clause-traced g c going =
     let body = body_with log c.args.message.now.body in
     let driver = c.args.self.now.node.role.scans.driver in
     let release = release_by driver.driver.state body in
-    let released : c.released_in.result ≡ release =
-    c.released_in.ensures ∙ ap released_in (c.reply-answered.ensures.answered going log)
+    let released : c.released.result ≡ release =
+    c.released.ensures ∙ ap released_in (c.reply-answered.ensures.answered going log)
     ∙ released_back release (is_some (answer_by driver.driver.state body)) (is_some driver.shown) in
-    traced_back c.released_in.result release released
+    traced_back c.released.result release released
     c.args.self.now.tracer.number c.count.new.self.tracer.number c.args.self.now.tracer.epoch c.count.new.self.tracer.epoch
     c.count.ensures.traced.0 c.count.ensures.traced.1
     c.args.self.now.tracer.trace c.count.new.self.tracer.trace c.release.new.self.tracer.trace c.count.ensures.traced.2

@@ -4,8 +4,9 @@ use Rattle.vr_client.specs.Client.{answer_by}
 use Rattle.vr_model.specs.StandsFor.{body_with, message_with}
 use Rattle.plc_machine.specs.Driving.{TakesReply}
 use Rattle.plc_machine.proofs.Answers.{was_answered}
-use Rattle.plc_node_core.specs.Scanning.{answered_by}
+use Rattle.plc_node_core.specs.Scanning.{answered_by, released_in}
 use Rattle.plc_node_core.proofs.Quieting.{reply_quiet}
+use Rattle.plc_node_core.proofs.Releases.{released_back}
 use Rattle.plc_node_core.proofs.scan_client.ScanClient.reply.Goals as goal
 
 pub returns-clause-answered : goal.returns-clause-answered
@@ -23,6 +24,13 @@ returns-clause-answered c log =
     ∙ ap (λ a. answered_by (release_by before.driver.state body) a (is_some c.shown-shown.result)) is
     ∙ ap (λ s. answered_by (release_by before.driver.state body) (is_some (answer_by before.driver.state body)) (is_some s)) c.shown-shown.ensures
 
+pub returns-clause-released : goal.returns-clause-released
+returns-clause-released c log =
+    let before = c.args.self.now.driver in
+    let body = body_with log c.args.message.now.body in
+    ap released_in (returns-clause-answered c log)
+    ∙ released_back (release_by before.driver.state body) (is_some (answer_by before.driver.state body)) (is_some before.shown)
+
 pub returns-clause-shown : goal.returns-clause-shown
 returns-clause-shown c log =
     let before = c.args.self.now.driver in
@@ -35,3 +43,6 @@ returns-clause-quiet c quiet =
     let body = body_with [] c.args.message.now.body in
     reply_quiet before c.on_reply-release.new.self (message_with [] c.args.message.now) quiet (c.on_reply-release.ensures.heard [])
     (subst (λ r. TakesReply r (is_some (answer_by before.driver.state body)) before c.on_reply-release.new.self) (c.on_reply-release.ensures.release []) (c.on_reply-release.ensures.shown []))
+
+pub returns-clause-course : goal.returns-clause-course
+returns-clause-course c = (c.on_reply-release.ensures.shown []).1
