@@ -42,7 +42,6 @@
 mod antechamber;
 mod beginning;
 mod begun;
-mod both;
 mod by_hand;
 mod drive;
 mod ended;
