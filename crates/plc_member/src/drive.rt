@@ -40,7 +40,7 @@ use std::time::{Duration, Instant};
 use vr_model::Message;
 use vr_ports::{Input, Link, send_all};
 use vr_shown::Shown;
-use vr_threads::{Saves, Solo};
+use vr_threads::{OwnReplica, Saves};
 
 /// In milliseconds: so often a driver that has ended looks whether its replica's thread is at its end.
 const LOOK: u64 = 1;
@@ -65,7 +65,7 @@ where
     pub(crate) node: Node,
     /// By which it sends requests, and receives.
     pub(crate) link: PeerLink<R>,
-    pub(crate) solo: Solo<HeldLink<R>>,
+    pub(crate) replica: OwnReplica<HeldLink<R>>,
     pub(crate) keeper: Keeper<R>,
     pub(crate) board: Arc<ScanBoard>,
     /// How what its replica keeps in the machine's directory goes.
@@ -221,7 +221,7 @@ where
     /// Cuts the link of its replica, which writes nothing more into the machine's directory.
     fn cut(&mut self) {
         self.saves.end();
-        self.solo.cut();
+        self.replica.cut();
     }
 
     // ---- what it looks at
@@ -233,7 +233,7 @@ where
         if !self.node.has_ended() {
             self.attend(now);
         }
-        let shown = self.solo.look();
+        let shown = self.replica.look();
         if self.node.has_ended() {
             let replica = self.replica(shown);
             self.node.look(&replica, now);
@@ -266,7 +266,7 @@ where
         ShownReplica {
             standing: shown.standing,
             has_failed: shown.has_failed || self.keeper.terms.hold.is_dead(),
-            is_over: self.solo.is_over(),
+            is_over: self.replica.is_idle(),
             seen: scan_of(self.board.read(&self.host.rt)),
         }
     }
@@ -277,7 +277,7 @@ where
             self.node.end_by(Ending::Stopped, now);
             return;
         }
-        let leaving = self.keeper.attend(&mut self.solo);
+        let leaving = self.keeper.attend(&mut self.replica);
         for notice in self.keeper.take_untold() {
             self.teller.note(notice);
         }

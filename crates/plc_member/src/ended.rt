@@ -6,7 +6,7 @@ use crate::life::Life;
 use crate::serving::MachineRuntime;
 use plc_epochs::Kept;
 use plc_host::Failed;
-use vr_threads::SoloThread;
+use std::thread::JoinHandle;
 
 /// What a life leaves behind that ends for another epoch: what the store is to have of epochs. Only the end of a life
 /// gives it. So its port, its sessions and its links are closed, and its replica is served no longer, before the store
@@ -37,7 +37,7 @@ impl Left {
 
     /// Of a machine whose replica has this thread, and whose links are cut. Its listener is closed once that's at its
     /// end.
-    pub(crate) fn begun<R: MachineRuntime>(rt: &R, thread: SoloThread, kept: Kept) -> Left
+    pub(crate) fn begun<R: MachineRuntime>(rt: &R, thread: JoinHandle<()>, kept: Kept) -> Left
         ensures { result.kept ≡ kept }
     {
         thread.join(rt);

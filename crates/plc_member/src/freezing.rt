@@ -13,7 +13,7 @@ use std::thread;
 use std::time::Duration;
 use vr_model::Status;
 use vr_shown::Shown;
-use vr_threads::Solo;
+use vr_threads::OwnReplica;
 
 /// In milliseconds: so long it waits for the thread of its replica to come to its next receive.
 const TAKING_UP: u32 = 100;
@@ -69,7 +69,7 @@ where
     R: ServiceRuntime + Net<Listener = TcpListener, Stream = TcpStream>,
 {
     /// Looks at what came, of a machine that has begun its epoch. How its life is to end, if it is.
-    pub(crate) fn attend(&mut self, solo: &mut Solo<HeldLink<R>>) -> Option<Leaving> {
+    pub(crate) fn attend(&mut self, replica: &mut OwnReplica<HeldLink<R>>) -> Option<Leaving> {
         let now = self.due()?;
         self.probe(now);
         let words = self.words();
@@ -84,25 +84,25 @@ where
         if !self.epochs.cold_start().recovers() {
             return None;
         }
-        if !self.has_thawed(solo) {
+        if !self.has_thawed(replica) {
             return None;
         }
-        self.recover(solo, words, now)
+        self.recover(replica, words, now)
     }
 
     /// Whether its replica recovers under the nonce under which it's to, and has done so since its link was let go.
-    fn has_thawed(&mut self, solo: &mut Solo<HeldLink<R>>) -> bool {
+    fn has_thawed(&mut self, replica: &mut OwnReplica<HeldLink<R>>) -> bool {
         match self.thaw {
             Thaw::No => true,
             Thaw::Wanted => {
-                if solo.restart(&self.host.rt) {
+                if replica.restart(&self.host.rt) {
                     self.thaw = Thaw::Ordered;
                 }
                 false
             }
             Thaw::Ordered => {
                 // Until it's up again an answer to its nonce before could still be under way in it.
-                if solo.look().standing.status == Status::Down {
+                if replica.look().standing.status == Status::Down {
                     return false;
                 }
                 self.thaw = Thaw::No;
@@ -115,11 +115,11 @@ where
     /// Goes on with a replica that recovers.
     fn recover(
         &mut self,
-        solo: &mut Solo<HeldLink<R>>,
+        replica: &mut OwnReplica<HeldLink<R>>,
         words: Vec<Visit>,
         now: Moment,
     ) -> Option<Leaving> {
-        if !self.epochs.is_frozen() && !self.is_held(solo, &words, now) {
+        if !self.epochs.is_frozen() && !self.is_held(replica, &words, now) {
             return None;
         }
         if let Some(leaving) = self.hear_words(words, now) {
@@ -137,8 +137,13 @@ where
 
     /// Holds its link, where it may freeze by what it's told next: whether it does, and recovers still. No answer that
     /// came before is under way in its replica then.
-    fn is_held(&mut self, solo: &mut Solo<HeldLink<R>>, words: &Vec<Visit>, now: Moment) -> bool {
-        if has_recovered(solo.look()) {
+    fn is_held(
+        &mut self,
+        replica: &mut OwnReplica<HeldLink<R>>,
+        words: &Vec<Visit>,
+        now: Moment,
+    ) -> bool {
+        if has_recovered(replica.look()) {
             self.epochs.recovered();
             return false;
         }
@@ -149,7 +154,7 @@ where
         self.terms.hold.hold();
         // The replica is looked at behind its next receive: what an answer before that made of it shows then.
         let is_taken_up = self.is_taken_up();
-        if stays_held(is_taken_up, is_recovering(solo.look())) {
+        if stays_held(is_taken_up, is_recovering(replica.look())) {
             return true;
         }
         self.terms.hold.let_go();

@@ -31,9 +31,10 @@ use std::net::SocketAddr;
 use std::rt::Files;
 use std::sync::Arc;
 use std::thread;
+use std::thread::JoinHandle;
 use std::time::Duration;
 use vr_model::ClientNumber;
-use vr_threads::{SoloThread, Starts};
+use vr_threads::Starts;
 
 /// A runtime that the process of a machine runs on.
 pub trait MachineRuntime: DoorRuntime + Files {}
@@ -289,7 +290,7 @@ impl<R: MachineRuntime, J: Naming, P: Pen<J> + Drop> Parts<R, J, P> {
         period: Duration,
         driver: MachineDriver,
         stage: Arc<Stage>,
-    ) -> (Drive<R, J, P>, SoloThread)
+    ) -> (Drive<R, J, P>, JoinHandle<()>)
         ensures { result.0.begun ≡ self.running.around.keeper.begun }
     {
         let Parts {
@@ -301,7 +302,7 @@ impl<R: MachineRuntime, J: Naming, P: Pen<J> + Drop> Parts<R, J, P> {
         let Running {
             around,
             boards,
-            solo,
+            replica,
             thread,
         } = running;
         let begun = around.keeper.begun;
@@ -313,7 +314,7 @@ impl<R: MachineRuntime, J: Naming, P: Pen<J> + Drop> Parts<R, J, P> {
             number,
             node: hands.node,
             link: hands.link,
-            solo,
+            replica,
             keeper: hands.keeper,
             board: boards.scans,
             saves: boards.saves,
@@ -370,7 +371,7 @@ impl<R: MachineRuntime, J: Naming, P: Pen<J> + Drop> Parts<R, J, P> {
         host: Host<R>,
         group: &Group,
         seats: Seats<R, J>,
-    ) -> Result<(Work<R, J, P>, SoloThread), Failed> {
+    ) -> Result<(Work<R, J, P>, JoinHandle<()>), Failed> {
         let means = self.means(group, &seats);
         let ((parts, seats), means) = both((self, seats), means)?;
         let Means {
@@ -390,7 +391,7 @@ impl<R: MachineRuntime, J: Naming, P: Pen<J> + Drop> Parts<R, J, P> {
 
 /// How a machine ended the work of whose driver ended so, and whose replica has this thread. Whoever leaves an epoch says
 /// nothing in a later one before its replica, its links and its listener are gone.
-fn ended_by<R: MachineRuntime>(rt: &R, parting: Parting, thread: SoloThread) -> Ended {
+fn ended_by<R: MachineRuntime>(rt: &R, parting: Parting, thread: JoinHandle<()>) -> Ended {
     match parting {
         Parting::Stopped => Ended::Stopped,
         Parting::Failed(failed) => Ended::Failed(failed),

@@ -20,7 +20,8 @@ use plc_services::both;
 use std::alloc::{AllocError, Global};
 use std::sync::Arc;
 use std::sync::atomic::AtomicBool;
-use vr_threads::{ClusterConfig, ClusterError, GroupTimer, Saves, Seat, Solo, SoloThread, Starts};
+use std::thread::JoinHandle;
+use vr_threads::{ClusterConfig, ClusterError, GroupTimer, OwnReplica, Saves, Seat, Starts};
 
 /// Where the thread of a replica leaves what the others of its machine look at.
 #[derive(Drop)]
@@ -97,9 +98,9 @@ impl Boards {
 pub(crate) struct Running<R: MachineRuntime> {
     pub(crate) around: Surroundings<R>,
     pub(crate) boards: Boards,
-    pub(crate) solo: Solo<HeldLink<R>>,
-    /// Of the replica. It ends once the link is cut and `solo` is let go of.
-    pub(crate) thread: SoloThread,
+    pub(crate) replica: OwnReplica<HeldLink<R>>,
+    /// Of the replica. It ends once the link is cut and `replica` is let go of.
+    pub(crate) thread: JoinHandle<()>,
 }
 
 /// Why no replica runs.
@@ -177,12 +178,12 @@ where
 }
 
 /// Starts the replica of a life that began so, in a thread of its own.
-fn solo_of<R, S, M>(
+fn replica_of<R, S, M>(
     host: Host<R>,
     group: &Group,
     origin: &Origin,
     seat: MachineSeat<R, S, M>,
-) -> Result<(Solo<HeldLink<R>>, SoloThread), Failed>
+) -> Result<(OwnReplica<HeldLink<R>>, JoinHandle<()>), Failed>
 where
     R: MachineRuntime,
     S: Starts + Send + Drop + 'static,
@@ -190,7 +191,7 @@ where
 {
     let Host { rt, alloc } = host;
     let number = origin.header.machine;
-    match Solo::start(&rt, alloc, config_of(group), number, &origin.image, seat) {
+    match OwnReplica::start(&rt, alloc, config_of(group), number, &origin.image, seat) {
         Ok(started) => Ok(started),
         Err(error) => Err(failed_by(error)),
     }
@@ -216,12 +217,12 @@ where
     } = begun;
     let seat = seat_of(host, group, &around, &boards, link, files);
     let ((around, boards), seat) = both((around, boards), seat)?;
-    let solo = solo_of(host, group, &around.origin, seat);
-    let ((around, boards), (solo, thread)) = both((around, boards), solo)?;
+    let replica = replica_of(host, group, &around.origin, seat);
+    let ((around, boards), (replica, thread)) = both((around, boards), replica)?;
     Ok(Running {
         around,
         boards,
-        solo,
+        replica,
         thread,
     })
 }

@@ -2,11 +2,10 @@
 
 ghost use Rattle.std.specs.Prelude.{◌≡◌, IfOk, vec_len};
 ghost use Rattle.vr_model.specs.Groups.{group_size};
-ghost use Rattle.vr_threads.specs.Working.{IsPlannedFor};
 
+use crate::own_replica::{OwnReplica, enrolled, work};
 use crate::starting::Starts;
-use crate::working::{Plan, Work, spawned};
-use crossbeam_channel::{Sender, bounded};
+use crate::working::Work;
 use il_loader::Image;
 use il_model::Budget;
 use std::alloc::{AllocError, AllocFailed, Global};
@@ -14,9 +13,9 @@ use std::sync::Wait;
 use std::thread::{JoinHandle, Threads};
 use thiserror::Error;
 use vr_model::Config;
-use vr_ports::{Cutter, Relink, Timer};
+use vr_ports::{Relink, Timer};
 use vr_serving::{Observer, Seat};
-use vr_shown::{Shown, ShownReader, ShownWriter};
+use vr_shown::Shown;
 
 /// Why no replica is served.
 #[derive(Clone, Copy, Debug, PartialEq, Eq, Error)]
@@ -58,64 +57,12 @@ pub struct ClusterConfig {
     pub turns: u64,
 }
 
-/// A replica, as others see it: what cuts its link, the way to give its thread orders to start it, and what shows of
-/// it.
-#[derive(Drop)]
-pub(crate) struct Member<L: Relink + Drop> {
-    pub(crate) cutter: L::Cutter,
-    shown: ShownReader,
-    orders: Sender<()>,
-    /// So many orders it was given.
-    ordered: u64,
-}
-
-impl<L: Relink + Drop> Member<L> {
-    /// What shows of it now: it is down from an order on until that came to its end.
-    pub(crate) fn look(&mut self) -> Shown {
-        let shown = self.shown.read();
-        if shown.tries == self.ordered {
-            shown
-        } else {
-            shown.starting()
-        }
-    }
-
-    /// Whether an order has not come to its end.
-    fn is_starting(&mut self) -> bool {
-        self.shown.read().tries != self.ordered
-    }
-
-    /// Whether nothing is done for it: it is not served, and no order has yet to come to its end.
-    pub(crate) fn is_idle(&mut self) -> bool {
-        !self.is_starting() && !self.look().is_served
-    }
-
-    /// Has its thread start it, unless an order has not come to its end: whether that is ordered.
-    pub(crate) fn order<R: Wait>(&mut self, rt: &R) -> bool {
-        if self.is_starting() || self.orders.try_send(rt, ()).is_err() {
-            return false;
-        }
-        self.ordered = self.ordered.saturating_add(1);
-        true
-    }
-
-    /// Has its thread start it anew, unless an order has not come to its end: one that is up crashes first. Whether
-    /// that is ordered.
-    pub(crate) fn restart<R: Wait>(&mut self, rt: &R) -> bool {
-        if self.is_starting() {
-            return false;
-        }
-        self.cutter.cut();
-        self.order(rt)
-    }
-}
-
 /// A group of replicas, each started and served by a thread of its own, which it keeps. Any thread may have it.
 #[derive(Drop)]
 pub struct Cluster<L: Relink + Drop> {
     alloc: Global,
     pub config: ClusterConfig,
-    members: Vec<Member<L>>,
+    members: Vec<OwnReplica<L>>,
 }
 
 /// The threads of a cluster's replicas. They end once the cluster is let go of and their links are closed.
@@ -210,7 +157,7 @@ impl<L: Relink + Send + Drop + 'static> Cluster<L> {
     /// does nothing.
     pub fn crash(&self, number: u8) {
         if let Some(member) = self.members.get(usize::from(number)) {
-            member.cutter.cut();
+            member.cut();
         }
     }
 
@@ -252,39 +199,9 @@ impl<L: Relink + Send + Drop + 'static> Cluster<L> {
     /// Closes the link of each replica, which ends its serving.
     pub fn cut(&self) {
         for member in &self.members {
-            member.cutter.cut();
+            member.cut();
         }
     }
-}
-
-/// A replica whose thread has this work and waits for an order, and that thread.
-pub(crate) fn enrolled<R, L, S, T, G>(
-    rt: &R,
-    alloc: Global,
-    work: Work<L, S, T, G>,
-) -> Result<(Member<L>, JoinHandle<()>), ClusterError>
-where
-    R: Threads + Wait + Copy + Send + 'static,
-    L: Relink + Send + Drop + 'static,
-    S: Starts + Send + Drop + 'static,
-    T: Timer + Send + Drop + 'static,
-    G: Observer + Send + Drop + 'static,
-{
-    let cutter = work.seat.link.cutter()?;
-    let shown = work.shown.reader()?;
-    let (orders, inbox) = bounded(alloc, 1)?;
-    let Some(thread) = spawned(rt, alloc, inbox, work) else {
-        return Err(ClusterError::Thread);
-    };
-    Ok((
-        Member {
-            cutter,
-            shown,
-            orders,
-            ordered: 0,
-        },
-        thread,
-    ))
 }
 
 /// The work of each replica of a group, by its number.
@@ -299,33 +216,4 @@ fn works<L: Drop, S: Drop, T: Drop, G: Drop>(
         works.push(work(alloc, config, number, image, seat)?)?;
     }
     Ok(works)
-}
-
-/// The work of the replica of this number, with these parts.
-pub(crate) fn work<L: Drop, S: Drop, T: Drop, G: Drop>(
-    alloc: Global,
-    config: ClusterConfig,
-    number: u8,
-    image: &Image,
-    seat: Seat<L, S, T, G>,
-) -> Result<Work<L, S, T, G>, ClusterError>
-    ensures { IfOk result (λ work. IsPlannedFor config image.now number work.plan) }
-{
-    let ClusterConfig {
-        group,
-        budget,
-        turns,
-    } = config;
-    Ok(Work {
-        plan: Plan {
-            config: group,
-            number,
-            image: image.copy(alloc)?,
-            budget,
-            turns,
-        },
-        seat,
-        shown: ShownWriter::new(alloc)?,
-        is_used: false,
-    })
 }

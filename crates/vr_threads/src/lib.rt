@@ -1,7 +1,7 @@
 //! Replicas, each started and served by a thread of its own (`vr_serving` has its loop); links over channels; a store
-//! in a file; and the machine's time as a timer. A `Cluster` has a whole group in one process, a `Solo` one replica, of
-//! a machine that has no other. What shows of each replica others read (`vr_shown`). A disk that hangs holds up its
-//! replica and nobody else: orders wait for nothing.
+//! in a file; and the machine's time as a timer. A `Cluster` has a whole group in one process, an `OwnReplica` is one
+//! replica, as of a machine that has no other. What shows of each replica others read (`vr_shown`). A disk that hangs
+//! holds up its replica and nobody else: orders wait for nothing.
 //!
 //! ```rust
 //! use vr_threads::{FileStore, Starts};
@@ -37,10 +37,10 @@ mod laws;
 mod machine_timer;
 mod numbered_starts;
 mod numbers;
+mod own_replica;
 mod patience;
 mod patient_store;
 mod saves;
-mod solo;
 mod starting;
 mod working;
 
@@ -53,8 +53,8 @@ pub use judged_starts::JudgedStarts;
 pub use laws::{observations_join, restart_is_observed};
 pub use machine_timer::MachineTimer;
 pub use numbered_starts::NumberedStarts;
+pub use own_replica::OwnReplica;
 pub use patient_store::PatientStore;
 pub use saves::{Pauses, Saves};
-pub use solo::{Solo, SoloThread};
 pub use starting::Starts;
 pub use vr_serving::{Observer, Seat, serve};
