@@ -1,6 +1,6 @@
 //! A node of a group as two values, for a run by virtual time: `Host`, what the thread of its replica does, and `Node`,
 //! what its driver does. Each is told what came and when, and says what is to be done, in order; neither has a clock, a
-//! socket, a file or a thread. `sim_group` has whole groups of them, and no product crate uses it.
+//! socket, a file or a thread. `sim_run` has whole groups of them; no machine that is served uses it.
 //!
 //! ```rust
 //! let mut host = Host::new(setup, &kept, starts, now); // a life begins, from what the store has of epochs

@@ -12,7 +12,7 @@ use io_image::Release;
 use net_hello::Epoch;
 use std::alloc::{AllocError, Global};
 use std::mem;
-use vr_model::{Body, Message, Request, Status};
+use vr_model::{Body, Message, Request, Standing, Status};
 use vr_replica::Replica;
 
 /// An entry of a log that its replica had not executed.
@@ -22,9 +22,19 @@ struct Shadow {
     request: Request,
 }
 
+/// How a replica stood, and how far its log was.
+#[derive(Clone, Copy, PartialEq, Eq)]
+struct Look {
+    standing: Standing,
+    entries: u64,
+    commit: u64,
+}
+
 /// What was seen of a machine's replica.
 #[derive(Drop)]
 struct Watched {
+    /// At the last look, if there was one.
+    look: Option<Look>,
     /// So many entries of it were checked.
     seen: u64,
     /// Those that it had not executed at the last look: a checkpoint may stand for them at the next one.
@@ -37,6 +47,8 @@ pub struct Checker {
     alloc: Global,
     image: Image,
     budget: Budget,
+    counter: Option<u16>,
+    /// Of the last epochs.
     histories: Vec<History>,
     /// By machine.
     watched: Vec<Watched>,
@@ -44,6 +56,21 @@ pub struct Checker {
     read: Option<Point>,
     pub wrong: Option<Wrong>,
     pub entries: u64,
+    pub scans: u64,
+    /// The greatest number of an epoch.
+    pub epoch: u64,
+}
+
+/// So many histories are kept, of the last epochs: none is looked at that is older.
+const MOST: usize = 16;
+
+/// How a replica stands.
+fn look_at(replica: &Replica) -> Look {
+    Look {
+        standing: replica.standing(),
+        entries: replica.op_number(),
+        commit: replica.commit(),
+    }
 }
 
 /// The entries of a replica that it has not executed.
@@ -73,6 +100,7 @@ fn unwatched(alloc: Global, size: u8) -> Result<Vec<Watched>, AllocError> {
     let mut watched = Vec::new(alloc);
     for _ in 0..size {
         watched.push(Watched {
+            look: None,
             seen: 0,
             shadows: Vec::new(alloc),
         })?;
@@ -81,23 +109,28 @@ fn unwatched(alloc: Global, size: u8) -> Result<Vec<Watched>, AllocError> {
 }
 
 impl Checker {
-    /// Of so many machines that run this program.
+    /// Of so many machines that run this program. Clients count their writes in two words of the inputs, of which
+    /// `counter` is the first: without it, it isn't checked that inputs never fall.
     pub fn new(
         alloc: Global,
         image: &Image,
         budget: Budget,
         size: u8,
+        counter: Option<u16>,
     ) -> Result<Checker, AllocError> {
         let watched = unwatched(alloc, size)?;
         Ok(Checker {
             alloc,
             image: image.copy(alloc)?,
             budget,
+            counter,
             histories: Vec::new(alloc),
             watched,
             read: None,
             wrong: None,
             entries: 0,
+            scans: 0,
+            epoch: 0,
         })
     }
 
@@ -106,17 +139,34 @@ impl Checker {
         self.wrong = first_of(self.wrong, Some(wrong));
     }
 
-    /// The place of an epoch's history, which begins where there is none.
-    fn history_of(&mut self, epoch: &Epoch) -> Result<usize, AllocError> {
+    /// The place of an epoch's history, if it has begun.
+    fn place_of(&self, epoch: &Epoch) -> Option<usize> {
         for (place, history) in self.histories.iter().enumerate() {
             if history.epoch == *epoch {
-                return Ok(place);
+                return Some(place);
             }
         }
-        let place = self.histories.len();
-        let history = History::new(self.alloc, *epoch, &self.image, self.budget)?;
+        None
+    }
+
+    /// The place of an epoch's history, which begins where there is none.
+    fn history_of(&mut self, epoch: &Epoch) -> Result<usize, AllocError> {
+        match self.place_of(epoch) {
+            Some(place) => Ok(place),
+            None => self.begin_history(epoch),
+        }
+    }
+
+    /// An epoch's history begins: its place.
+    fn begin_history(&mut self, epoch: &Epoch) -> Result<usize, AllocError> {
+        let (image, counter) = (&self.image, self.counter);
+        let history = History::new(self.alloc, *epoch, image, self.budget, counter)?;
         self.histories.push(history)?;
-        Ok(place)
+        self.epoch = self.epoch.max(epoch.number);
+        if self.histories.len() > MOST {
+            drop(self.histories.remove(0));
+        }
+        Ok(self.histories.len() - 1)
     }
 
     /// A machine submits this now, in microseconds: moments go no faster than time.
@@ -151,7 +201,11 @@ impl Checker {
             self.forget(machine);
             return Ok(());
         }
-        let commit = replica.commit();
+        let look = look_at(replica);
+        if self.is_seen(machine, look) {
+            return Ok(());
+        }
+        let commit = look.commit;
         let (seen, shadows) = self.take_watched(machine, commit);
         if seen < commit {
             let at = self.history_of(epoch)?;
@@ -161,10 +215,19 @@ impl Checker {
         }
         let shadows = shadows_of(self.alloc, replica)?;
         if let Some(watched) = self.watched.get_mut(usize::from(machine)) {
+            watched.look = Some(look);
             watched.seen = commit;
             watched.shadows = shadows;
         }
         Ok(())
+    }
+
+    /// Whether a replica stood so at the last look, with as long a log: then that is the same.
+    fn is_seen(&self, machine: u8, look: Look) -> bool {
+        match self.watched.get(usize::from(machine)) {
+            Some(watched) => watched.look == Some(look),
+            None => false,
+        }
     }
 
     /// How many entries of a replica were checked, of which it has executed so many now, and those that it hadn't.
@@ -221,12 +284,16 @@ impl Checker {
         let wrong = history.add(self.alloc, request)?;
         self.wrong = first_of(self.wrong, wrong);
         self.entries = self.entries.saturating_add(1);
+        if moment_of(&request.command).is_some() {
+            self.scans = self.scans.saturating_add(1);
+        }
         Ok(())
     }
 
     /// The replica of a machine is gone, or new.
     pub fn forget(&mut self, machine: u8) {
         if let Some(watched) = self.watched.get_mut(usize::from(machine)) {
+            watched.look = None;
             watched.seen = 0;
         }
     }

@@ -3,7 +3,7 @@
 use crate::verdicts::{Sampled, Submitted, Wrong, fallen, is_ahead};
 use ctl_debugger::{Controller, prepare};
 use il_loader::Image;
-use il_model::{Answer, Budget, Command, OutImage};
+use il_model::{Answer, Budget, Command, InImage, OutImage};
 use net_hello::Epoch;
 use std::alloc::{AllocError, Global};
 use std::collections::VecDeque;
@@ -33,16 +33,21 @@ pub(crate) struct History {
     last: Sampled,
     /// The scan that was submitted first.
     first: Option<Submitted>,
+    counter: Option<u16>,
 }
 
-/// What an entry's command samples; 0 where it's no scan.
-fn value_of(command: &Command) -> u64 {
-    match command {
-        Command::Scan { inputs, .. } => {
-            let low = i64::from(inputs.cells.words[0]);
-            let high = i64::from(inputs.cells.words[1]);
-            u64::try_from(low + 30_000 * high).unwrap_or(0)
-        }
+/// The number that stands in two words of the inputs, of which this is the first.
+fn number_at(inputs: &InImage, counter: u16) -> Option<u64> {
+    let place = usize::from(counter);
+    let low = i64::from(inputs.cells.words.get(place).copied()?);
+    let high = i64::from(inputs.cells.words.get(place + 1).copied()?);
+    u64::try_from(low + 30_000 * high).ok()
+}
+
+/// How many writes a command samples, where they are counted there; 0 where it's no scan, or they aren't counted.
+fn value_of(command: &Command, counter: Option<u16>) -> u64 {
+    match (command, counter) {
+        (Command::Scan { inputs, .. }, Some(counter)) => number_at(inputs, counter).unwrap_or(0),
         _ => 0,
     }
 }
@@ -56,23 +61,20 @@ pub(crate) fn moment_of(command: &Command) -> Option<u64> {
 }
 
 /// What a command samples, if it's a scan.
-fn sampled_by(command: &Command) -> Option<Sampled> {
-    match command {
-        Command::Scan { moment, .. } => Some(Sampled {
-            value: value_of(command),
-            moment: *moment,
-        }),
-        _ => None,
-    }
+fn sampled_by(command: &Command, counter: Option<u16>) -> Option<Sampled> {
+    let moment = moment_of(command)?;
+    let value = value_of(command, counter);
+    Some(Sampled { value, moment })
 }
 
 impl History {
-    /// That of an epoch which begins.
+    /// That of an epoch which begins. Clients count their writes in two words, of which `counter` is the first.
     pub(crate) fn new(
         alloc: Global,
         epoch: Epoch,
         image: &Image,
         budget: Budget,
+        counter: Option<u16>,
     ) -> Result<History, AllocError> {
         Ok(History {
             epoch,
@@ -84,6 +86,7 @@ impl History {
                 moment: 0,
             },
             first: None,
+            counter,
         })
     }
 
@@ -115,7 +118,7 @@ impl History {
         };
         entry.client == request.client.number
             && entry.number == request.number
-            && entry.value == value_of(&request.command)
+            && entry.value == value_of(&request.command, self.counter)
     }
 
     /// This is its next entry: what is wrong of it, if anything.
@@ -125,7 +128,7 @@ impl History {
         request: &Request,
     ) -> Result<Option<Wrong>, AllocError> {
         let mut wrong = None;
-        if let Some(scan) = sampled_by(&request.command) {
+        if let Some(scan) = sampled_by(&request.command, self.counter) {
             wrong = fallen(self.last, scan);
             self.last = scan;
         }
@@ -138,7 +141,7 @@ impl History {
         self.entries.push_back(Entry {
             client: request.client.number,
             number: request.number,
-            value: value_of(&request.command),
+            value: value_of(&request.command, self.counter),
             answer,
         })?;
         Ok(wrong)

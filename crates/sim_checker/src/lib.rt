@@ -2,7 +2,7 @@
 //! the table says (`Checker`), what is counted (`Tally`), and what is told, with a sum over all of it (`Journal`).
 //!
 //! ```rust
-//! let mut checker = Checker::new(alloc, &image, budget, 3)?; // three machines that run this program
+//! let mut checker = Checker::new(alloc, &image, budget, 3, Some(0))?; // three machines that run this program
 //! checker.look(machine, &epoch, replica)?; // behind each step of a replica
 //! checker.submitted(&epoch, &message, now)?; // what a machine's driver sends
 //! let point = checker.released(&epoch, machine, &release)?; // where that stands in the epoch's history

@@ -12,42 +12,20 @@
 //! them. What isn't said is drawn by the seed, so a seed is a run only together with these words. Some lines for each
 //! seed; status 1 where something is wrong, 2 where a word is none of these.
 //!
-//! A machine is the values of `node_core`, with real replicas, and real values for connections (`Course`, `judge`), its
-//! stage (`StageBook`) and clients; its disk is a value, and so are frames: no byte of one is written or read. Faults:
-//! a process is killed, a machine loses its power, stands still, is cut off, one way or both; segments are lost; a disk
-//! is full, slow or lost; an operator stops a machine, and forces outputs. Left out: threads, sockets and files
-//! themselves, changes of the program, field devices, pages, a console's session.
-//!
-//! Checked at each step (`sim_checker`): each entry that a replica executes is that of its epoch's one history, which a
-//! controller of its own executes, too; moments and what clients wrote never fall; each output is that of its scan; no
-//! read shows less than one before. Behind the last fault all is well within 15 s, a takeover takes 250 ms and eight
-//! times what a segment takes at most, a cold start 4 s from the last machine's start on.
-//!
-//! Each call is safe and returns; all else is by its code alone. What `sim_time`, `sim_checker` and `sim_machine` prove
-//! of agendas, disks and verdicts is at their heads.
+//! What a run is made of, and what is checked at each of its steps, is at the head of `sim_run`. Each call is safe and
+//! returns; all else is by its code alone.
 #![tactic(auto)]
 
-mod driving;
-mod happening;
-mod hosting;
-mod lives;
-mod net;
-mod plan;
 mod report;
-mod serving;
-mod site;
-mod traffic;
-mod troubles;
 mod words;
-mod world;
 
 use crate::report::tell_run;
 use crate::words::{Said, Words};
-use crate::world::World;
 use il_model::Budget;
 use net_hello::Epoch;
 use net_peers::FIRST_CONSOLE;
-use sim_machine::{Asked, Program, setup_of};
+use sim_machine::{Asked, Program, Setup, setup_of};
+use sim_run::{Inputs, Kinds, Limits, Trial, World};
 use sim_time::SECOND;
 use std::alloc::Global;
 use std::process::ExitCode;
@@ -83,11 +61,22 @@ fn program(alloc: Global) -> Option<Box<Program>> {
     Box::new(alloc, program).ok()
 }
 
+/// What befalls a group: the faults of the seeds that are stored.
+fn trial_of(setup: &Setup) -> Trial {
+    Trial {
+        kinds: Kinds::standard(),
+        limits: Limits::of(setup),
+        resets: false,
+    }
+}
+
 /// The group of a seed; none where no group is so, or memory runs out.
 fn world_of(alloc: Global, seed: u64, asked: &Asked) -> Option<Box<World>> {
     let setup = setup_of(seed, asked)?;
     let operator = ClientNumber::new(FIRST_CONSOLE)?;
-    World::new(alloc, setup, program(alloc)?, operator).ok()
+    let trial = trial_of(&setup);
+    let inputs = Inputs::counted_at(0);
+    World::new(alloc, setup, trial, program(alloc)?, operator, inputs).ok()
 }
 
 /// Runs a seed, until that virtual time or until something is wrong: whether all is as the table says. None where there
@@ -97,7 +86,7 @@ fn run_seed(rt: &HostRuntime, words: &Words, seed: u64) -> io::Result<Option<boo
         return Ok(None);
     };
     match world.run(words.seconds.saturating_mul(SECOND)) {
-        Ok(()) => Ok(Some(tell_run(rt, &world.site)?)),
+        Ok(()) => Ok(Some(tell_run(rt, &world)?)),
         Err(_) => Ok(None),
     }
 }

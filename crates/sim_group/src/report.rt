@@ -1,8 +1,8 @@
 //! What is printed of a run.
 
-use crate::site::Site;
-use sim_checker::{Journal, Tally};
+use sim_checker::{Line, Tally};
 use sim_machine::Setup;
+use sim_run::World;
 use sim_time::{MS, SECOND};
 use std::io;
 
@@ -31,8 +31,8 @@ fn tell_tally(rt: &HostRuntime, tally: &Tally) -> io::Result<()> {
 }
 
 /// Prints what happened last in a run, until now.
-fn tell_lines(rt: &HostRuntime, journal: &Journal, now: u64) -> io::Result<()> {
-    for line in journal.lines.iter() {
+fn tell_lines(rt: &HostRuntime, lines: &[Line], now: u64) -> io::Result<()> {
+    for line in lines {
         if line.time.saturating_add(TOLD) > now {
             let (ms, part) = (line.time / MS, line.time % MS);
             let (machine, what, number) = (line.machine, line.what, line.number);
@@ -53,16 +53,16 @@ fn tell_group(rt: &HostRuntime, setup: &Setup, now: u64) -> io::Result<()> {
 }
 
 /// Prints a run: whether all is as the table says.
-pub(crate) fn tell_run(rt: &HostRuntime, site: &Site) -> io::Result<bool> {
-    let now = site.net.now;
-    tell_group(rt, &site.net.setup, now)?;
-    tell_tally(rt, &site.tally)?;
-    let sum = site.journal.sum;
-    match site.checker.wrong {
+pub(crate) fn tell_run(rt: &HostRuntime, world: &World) -> io::Result<bool> {
+    let summary = world.summary();
+    let (now, sum) = (summary.time, summary.sum);
+    tell_group(rt, &summary.setup, now)?;
+    tell_tally(rt, &summary.tally)?;
+    match summary.wrong {
         Some(wrong) => {
             let ms = now / MS;
             println!(rt; "  WRONG at {ms} ms: {wrong:?}")?;
-            tell_lines(rt, &site.journal, now)?;
+            tell_lines(rt, world.lines(), now)?;
             Ok(false)
         }
         None => {

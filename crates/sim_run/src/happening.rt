@@ -64,6 +64,9 @@ pub(crate) enum Trouble {
     Blocked { one: u8, other: u8, is_both: bool },
     /// Segments are lost.
     Loss,
+    /// Segments take longer, or now more time, now less.
+    Delay,
+    Reorder,
 }
 
 /// How far a run is.

@@ -1,6 +1,7 @@
 //! What the machines of a run share: what is under way between them, what they run, and what is said of them.
 
 use crate::net::Net;
+use crate::trial::Trial;
 use node_core::HostSetup;
 use sim_checker::{Checker, Journal, Line, Tally, What};
 use sim_machine::{Program, Setup};
@@ -12,6 +13,7 @@ use vr_model::ClientNumber;
 #[derive(Drop)]
 pub(crate) struct Site {
     pub(crate) net: Net,
+    pub(crate) trial: Trial,
     pub(crate) program: Box<Program>,
     pub(crate) operator: GroupClient,
     pub(crate) checker: Checker,
@@ -20,16 +22,21 @@ pub(crate) struct Site {
 }
 
 impl Site {
-    /// Of a group that runs this program; the operator is its client of this number.
+    /// Of a group that runs this program, in which clients count their writes there; the operator is its client of this
+    /// number.
     pub(crate) fn new(
         alloc: Global,
         setup: Setup,
+        trial: Trial,
         program: Box<Program>,
         operator: ClientNumber,
+        counter: Option<u16>,
     ) -> Result<Site, AllocError> {
-        let checker = Checker::new(alloc, &program.image, program.budget, setup.size())?;
+        let (image, budget) = (&program.image, program.budget);
+        let checker = Checker::new(alloc, image, budget, setup.size(), counter)?;
         Ok(Site {
             net: Net::new(alloc, setup),
+            trial,
             program,
             operator: GroupClient::new(&setup.config, operator, 1),
             checker,

@@ -1,27 +1,24 @@
 //! Faults at random, and how they end.
 
 use crate::happening::{Event, Happening, Trouble};
+use crate::kinds::Kind;
 use crate::net::Net;
 use crate::site::Site;
 use crate::world::World;
-use sim_checker::What;
 use sim_machine::Machine;
 use sim_time::MS;
 use std::alloc::AllocError;
-
-/// Of so many kinds of faults, one cuts off most machines at once.
-const KINDS: u64 = 12;
-
-const CUTS_MOST: u64 = 10;
 
 impl World {
     /// A fault comes.
     pub(crate) fn trouble(&mut self) -> Result<(), AllocError> {
         self.site.tally.failed();
         let machine = self.site.net.any();
-        let kind = self.site.net.draws.below(KINDS);
-        self.site.tell(machine, What::Fault, kind);
-        if kind == CUTS_MOST {
+        let Some(kind) = self.site.trial.kinds.draw(&mut self.site.net.draws) else {
+            return Ok(());
+        };
+        self.site.tell(machine, kind.told(), 0);
+        if kind == Kind::Power {
             return self.cut_most();
         }
         match self.machines.get_mut(usize::from(machine)) {
@@ -43,10 +40,10 @@ impl World {
 
 impl Site {
     /// A fault of this kind comes to a machine.
-    fn trouble(&mut self, it: &mut Machine, kind: u64) -> Result<(), AllocError> {
+    fn trouble(&mut self, it: &mut Machine, kind: Kind) -> Result<(), AllocError> {
         match kind {
-            0 | 1 => self.crash(it),
-            11 => self.stop(it),
+            Kind::Crash => self.crash(it),
+            Kind::Stop => self.stop(it),
             _ => self.net.trouble(it, kind),
         }
     }
@@ -84,16 +81,34 @@ impl Site {
 
 impl Net {
     /// A fault of this kind comes, with which no process ends.
-    fn trouble(&mut self, it: &mut Machine, kind: u64) -> Result<(), AllocError> {
+    fn trouble(&mut self, it: &mut Machine, kind: Kind) -> Result<(), AllocError> {
         match kind {
-            2 | 3 => {
+            Kind::Pause => {
                 self.pause(it);
                 Ok(())
             }
-            4 | 5 => self.block(it.number),
-            6 => self.isolate(it.number),
-            7 => self.fill_disk(it),
-            8 => self.slow_disk(it),
+            Kind::Isolate => self.isolate(it.number),
+            Kind::DiskFull => self.fill_disk(it, 50 * MS, 2_000 * MS),
+            Kind::DiskReadOnly => self.fill_disk(it, 2_000 * MS, 10_000 * MS),
+            Kind::DiskSlow => self.slow_disk(it),
+            _ => self.trouble_ways(it.number, kind),
+        }
+    }
+
+    /// A fault of this kind comes to what goes between machines.
+    fn trouble_ways(&mut self, one: u8, kind: Kind) -> Result<(), AllocError> {
+        match kind {
+            Kind::Cut => {
+                let other = self.any();
+                let is_both = self.draws.comes(600);
+                self.block(one, other, is_both)
+            }
+            Kind::OneWay => {
+                let other = self.any();
+                self.block(one, other, false)
+            }
+            Kind::Delay => self.delay_segments(),
+            Kind::Reorder => self.spread_segments(),
             _ => self.lose_segments(),
         }
     }
@@ -105,9 +120,7 @@ impl Net {
     }
 
     /// Nothing goes from a machine to another one for a while, and maybe nothing back.
-    fn block(&mut self, one: u8) -> Result<(), AllocError> {
-        let other = self.any();
-        let is_both = self.draws.comes(600);
+    fn block(&mut self, one: u8, other: u8, is_both: bool) -> Result<(), AllocError> {
         let trouble = Trouble::Blocked {
             one,
             other,
@@ -133,10 +146,10 @@ impl Net {
         Ok(())
     }
 
-    /// The disk of a machine is full for a while.
-    fn fill_disk(&mut self, it: &mut Machine) -> Result<(), AllocError> {
+    /// The disk of a machine takes no write for a while, as one that is full.
+    fn fill_disk(&mut self, it: &mut Machine, least: u64, most: u64) -> Result<(), AllocError> {
         it.disk.is_full = true;
-        let at = self.later(50 * MS, 2_000 * MS);
+        let at = self.later(least, most);
         self.put(at, it.number, Event::HasRoom)
     }
 
@@ -154,6 +167,28 @@ impl Net {
         self.agenda.put(at, Happening::Ends(Trouble::Loss))
     }
 
+    /// Segments take longer for a while.
+    fn delay_segments(&mut self) -> Result<(), AllocError> {
+        self.slower = self.draws.between(5 * MS, 50 * MS);
+        let at = self.later(200 * MS, 3_000 * MS);
+        self.agenda.put(at, Happening::Ends(Trouble::Delay))
+    }
+
+    /// Segments take now more time, now less, for a while.
+    fn spread_segments(&mut self) -> Result<(), AllocError> {
+        self.spread = self.draws.between(5 * MS, 50 * MS);
+        let at = self.later(200 * MS, 3_000 * MS);
+        self.agenda.put(at, Happening::Ends(Trouble::Reorder))
+    }
+
+    /// What goes between machines goes as before.
+    pub(crate) fn heal_ways(&mut self) -> Result<(), AllocError> {
+        self.lanes.heal();
+        self.slower = 0;
+        self.spread = 0;
+        self.release()
+    }
+
     /// A fault ends.
     pub(crate) fn end_trouble(&mut self, trouble: Trouble) -> Result<(), AllocError> {
         match trouble {
@@ -167,6 +202,14 @@ impl Net {
             }
             Trouble::Loss => {
                 self.lanes.loss = 0;
+                Ok(())
+            }
+            Trouble::Delay => {
+                self.slower = 0;
+                Ok(())
+            }
+            Trouble::Reorder => {
+                self.spread = 0;
                 Ok(())
             }
         }

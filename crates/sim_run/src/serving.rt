@@ -1,34 +1,22 @@
-//! Clients of the group: one writes a number that rises at each open port, one reads at all open ports, and an operator
-//! forces outputs and takes that back.
+//! Clients of the group: one writes inputs at each open port, one reads at all open ports, and an operator forces
+//! places and takes that back, or resets the program.
 
 use crate::happening::Happening;
 use crate::site::Site;
 use crate::world::World;
 use il_model::{Command, Slot, Value};
-use io_image::Staging;
 use sim_checker::Point;
 use sim_time::MS;
 use std::alloc::AllocError;
 
-/// A word holds less than this; what is more is told by the next word.
-const WORD: u64 = 30_000;
-
-/// A number as two words.
-fn words_of(number: u64) -> [i16; 2] {
-    let low = i16::try_from(number % WORD).unwrap_or(0);
-    let high = i16::try_from(number / WORD).unwrap_or(0);
-    [low, high]
-}
-
 impl World {
-    /// A client writes a number that it never wrote at each open port.
+    /// A client writes at each open port, with a count that it never wrote.
     pub(crate) fn write(&mut self) -> Result<(), AllocError> {
         let next = self.site.net.later(10 * MS, 60 * MS);
         self.site.net.agenda.put(next, Happening::Write)?;
         for it in self.machines.iter_mut() {
             if it.is_open(self.site.net.now) {
-                self.written = self.written.saturating_add(1);
-                let _ = it.stage.write_words(0, words_of(self.written).as_slice());
+                self.inputs.write(&mut it.stage);
             }
         }
         Ok(())
@@ -87,6 +75,10 @@ impl Site {
     fn order(&mut self) {
         let slot = Slot(u16::try_from(self.net.draws.below(16)).unwrap_or(0));
         let operator = &mut self.operator;
+        if self.trial.resets && self.net.draws.comes(100) {
+            drop(operator.submit(Command::Reset, Command::Reset));
+            return;
+        }
         if self.net.draws.comes(500) {
             drop(operator.submit(Command::Unforce(slot), Command::Unforce(slot)));
             return;

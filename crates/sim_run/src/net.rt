@@ -28,6 +28,9 @@ pub(crate) struct Net {
     pub(crate) draws: Draws,
     pub(crate) agenda: Agenda<Happening>,
     pub(crate) lanes: Lanes,
+    /// So much longer each segment takes, and so much longer at most.
+    pub(crate) slower: u64,
+    pub(crate) spread: u64,
 }
 
 impl Net {
@@ -40,6 +43,8 @@ impl Net {
             draws: Draws::new(setup.seed),
             agenda: Agenda::new(alloc),
             lanes: Lanes::new(alloc),
+            slower: 0,
+            spread: 0,
         }
     }
 
@@ -89,8 +94,13 @@ impl Net {
 
     /// How long a segment takes.
     fn delay(&mut self) -> u64 {
-        let most = self.setup.jitter.saturating_add(1);
-        self.setup.latency.saturating_add(self.draws.below(most))
+        let most = self
+            .setup
+            .jitter
+            .saturating_add(self.spread)
+            .saturating_add(1);
+        let least = self.setup.latency.saturating_add(self.slower);
+        least.saturating_add(self.draws.below(most))
     }
 
     /// The same of a segment of a connection: one that is lost is sent again.

@@ -2,9 +2,13 @@
 //! than its seed.
 
 use crate::happening::{Act, Event, Happening};
+use crate::inputs::Inputs;
 use crate::net::Net;
 use crate::site::Site;
+use crate::summary::Summary;
+use crate::trial::Trial;
 use net_hello::Epoch;
+use sim_checker::Line;
 use sim_machine::{Disk, End, Machine, Program, Setup};
 use sim_time::{Clock, Draws, MS, SECOND};
 use std::alloc::{AllocError, Global};
@@ -12,12 +16,12 @@ use vr_model::ClientNumber;
 
 /// A group of machines.
 #[derive(Drop)]
-pub(crate) struct World {
+pub struct World {
     pub(crate) machines: Vec<Machine>,
     pub(crate) site: Site,
     pub(crate) act: Act,
-    /// So many values were written by clients.
-    pub(crate) written: u64,
+    /// What clients write.
+    pub(crate) inputs: Inputs,
     /// When they read outputs last.
     pub(crate) last_read: u64,
 }
@@ -61,18 +65,21 @@ impl Net {
 
 impl World {
     /// A group that runs this program, with no machine yet; the operator is its client of this number.
-    pub(crate) fn new(
+    pub fn new(
         alloc: Global,
         setup: Setup,
+        trial: Trial,
         program: Box<Program>,
         operator: ClientNumber,
+        inputs: Inputs,
     ) -> Result<Box<World>, AllocError> {
-        let site = Site::new(alloc, setup, program, operator)?;
+        let counter = inputs.counter();
+        let site = Site::new(alloc, setup, trial, program, operator, counter)?;
         let world = World {
             machines: Vec::new(alloc),
             site,
             act: Act::Heals { since: 0 },
-            written: 0,
+            inputs,
             last_read: 0,
         };
         Ok(Box::new(alloc, world)?)
@@ -89,22 +96,66 @@ impl World {
         Ok(())
     }
 
-    /// Runs from the beginning until that time, or until something is wrong. Its machines start within a tenth of a
-    /// second.
-    pub(crate) fn run(&mut self, until: u64) -> Result<(), AllocError> {
+    /// Runs from the beginning until that time, or until something is wrong.
+    pub fn run(&mut self, until: u64) -> Result<(), AllocError> {
+        self.begin()?;
+        self.go_on(until, u64::MAX)
+    }
+
+    /// Its machines are to start within a tenth of a second.
+    pub fn begin(&mut self) -> Result<(), AllocError> {
         self.make_machines()?;
         for it in self.machines.iter_mut() {
             let at = self.site.net.draws.below(100 * MS);
             self.site.net.boot_at(it, at)?;
         }
-        self.site.net.begin()?;
-        self.go_on(until)
+        self.site.net.begin()
     }
 
-    /// Goes on until that time, or until something is wrong.
-    fn go_on(&mut self, until: u64) -> Result<(), AllocError> {
-        for _ in 0..u64::MAX {
-            if self.site.net.now >= until || self.site.checker.wrong.is_some() {
+    /// Whether it's that time, or something is wrong.
+    pub fn is_over(&self, until: u64) -> bool {
+        self.site.net.now >= until || self.site.checker.wrong.is_some()
+    }
+
+    /// So many steps it went.
+    pub fn steps(&self) -> u64 {
+        self.site.tally.happenings
+    }
+
+    /// What was seen so far.
+    pub fn summary(&self) -> Summary {
+        let Site {
+            net,
+            checker,
+            tally,
+            journal,
+            ..
+        } = &self.site;
+        Summary {
+            setup: net.setup,
+            time: net.now,
+            tally: *tally,
+            scans: checker.scans,
+            epoch: checker.epoch,
+            sum: journal.sum,
+            wrong: checker.wrong,
+        }
+    }
+
+    /// The lines that are kept of what happened.
+    pub fn lines(&self) -> &[Line] {
+        self.site.journal.lines.as_slice()
+    }
+
+    /// Keeps these lines no longer.
+    pub fn forget_lines(&mut self) {
+        self.site.journal.lines.clear();
+    }
+
+    /// Goes on for so many steps, until that time, or until something is wrong.
+    pub fn go_on(&mut self, until: u64, steps: u64) -> Result<(), AllocError> {
+        for _ in 0..steps {
+            if self.is_over(until) {
                 return Ok(());
             }
             let Some(what) = self.site.net.next() else {

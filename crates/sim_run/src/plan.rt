@@ -8,15 +8,6 @@ use sim_checker::{What, Wrong};
 use sim_time::{MS, SECOND};
 use std::alloc::AllocError;
 
-/// Behind the end of all faults all is well within that.
-const MOST_HEALING: u64 = 15 * SECOND;
-
-/// Behind a power cut of all, from the last start on, outputs are there within that.
-const MOST_COLD: u64 = 4 * SECOND;
-
-/// A takeover is over within that, and eight times what a segment takes at most.
-const MOST_TAKEOVER: u64 = 250 * MS;
-
 /// All is well for so long before something is tried.
 const CALM: u64 = 1_200 * MS;
 
@@ -74,7 +65,7 @@ impl World {
             self.act = Act::Calm {
                 until: now.saturating_add(CALM),
             };
-        } else if took > MOST_HEALING {
+        } else if took > self.site.trial.limits.healing {
             self.site.checker.note(if is_well {
                 Wrong::NoOutputs
             } else {
@@ -98,7 +89,7 @@ impl World {
             self.site.took_over(self.last_read.saturating_sub(since));
             self.boot_soon(machine)?;
             self.begin_faults();
-        } else if self.site.net.now.saturating_sub(since) > SECOND {
+        } else if self.site.has_no_takeover(since) {
             self.site.checker.note(Wrong::SlowTakeover);
         }
         Ok(MS)
@@ -124,7 +115,7 @@ impl World {
             } else {
                 self.begin_faults();
             }
-        } else if self.site.net.now.saturating_sub(since) > MOST_COLD {
+        } else if self.site.net.now.saturating_sub(since) > self.site.trial.limits.cold {
             self.site.checker.note(Wrong::SlowColdStart);
         }
         5 * MS
@@ -138,10 +129,16 @@ impl World {
 
     /// All is well: the one that leads is killed, or all are cut off.
     fn strike(&mut self) -> Result<(), AllocError> {
+        let (cuts, kills) = self.site.trial.strikes();
+        if !cuts && !kills {
+            self.begin_faults();
+            return Ok(());
+        }
         self.site.tally.failed();
         self.site.tell(0, What::Strikes, 0);
         self.tell_reached();
-        if self.one_waits() || self.site.net.draws.comes(300) {
+        let is_dark = self.one_waits() || self.site.net.draws.comes(300);
+        if cuts && (is_dark || !kills) {
             return self.go_dark();
         }
         let since = self.site.net.now;
@@ -178,7 +175,8 @@ impl World {
         for it in self.machines.iter_mut() {
             self.site.kill(it, false)?;
         }
-        if !self.one_waits() && self.site.net.draws.comes(300) {
+        let is_lost = !self.one_waits() && self.site.net.draws.comes(300);
+        if is_lost && self.site.trial.kinds.loses_disks {
             self.lose_disk();
         }
         let since = self.boot_all()?;
@@ -210,8 +208,7 @@ impl World {
     /// All faults end, and each machine that is down starts.
     fn heal(&mut self) -> Result<(), AllocError> {
         self.site.tell(0, What::Heals, 0);
-        self.site.net.lanes.heal();
-        self.site.net.release()?;
+        self.site.net.heal_ways()?;
         for it in self.machines.iter_mut() {
             self.site.net.heal(it)?;
         }
@@ -220,12 +217,24 @@ impl World {
 }
 
 impl Site {
+    /// How long a takeover may take.
+    fn most_takeover(&self) -> u64 {
+        let setup = &self.net.setup;
+        let longest = setup.latency.saturating_add(setup.jitter);
+        let ways = longest.saturating_mul(8);
+        self.trial.limits.takeover.saturating_add(ways)
+    }
+
+    /// Whether no machine has taken over since then, and none does any more.
+    fn has_no_takeover(&self, since: u64) -> bool {
+        let longest = self.most_takeover().saturating_add(SECOND);
+        self.net.now.saturating_sub(since) > longest
+    }
+
     /// A takeover took so long.
     fn took_over(&mut self, took: u64) {
         self.tally.took_over(took);
-        let setup = self.net.setup;
-        let longest = setup.latency.saturating_add(setup.jitter);
-        if took > MOST_TAKEOVER.saturating_add(longest.saturating_mul(8)) {
+        if took > self.most_takeover() {
             self.checker.note(Wrong::SlowTakeover);
         }
     }
@@ -233,7 +242,7 @@ impl Site {
     /// A cold start took so long.
     fn began_anew(&mut self, took: u64) {
         self.tally.began_anew(took);
-        if took > MOST_COLD {
+        if took > self.trial.limits.cold {
             self.checker.note(Wrong::SlowColdStart);
         }
     }
