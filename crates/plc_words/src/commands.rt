@@ -6,9 +6,10 @@ use crate::help;
 use crate::options::{
     CHANGE, CHECK, CONSOLE_SOCKET, CRASH, DIRECTORY, IDLE, LISTED, PERIOD, REPORT, SCANS, SOURCE,
     STALE, TIMEOUT, asked_commands, budget, changed, changed_listing, console, console_key, count,
-    directory, epoch, every, failures, field_status, file, flag, forget, formatted_source,
-    group_file, links, machine, made_store, new_group, next_epoch, once, place, port, position,
-    served_group, served_source, status, stop, text, trace, wait,
+    directory, epoch, every, failures, faults, field_status, file, flag, forget, formatted_source,
+    group_file, hours, links, machine, made_store, new_group, next_epoch, once, place, port,
+    position, schedule, seed, served_group, served_source, simulated_group, status, stop, text,
+    told, trace, until, wait,
 };
 use clap::{Arg, Command};
 use std::alloc::{AllocError, Global};
@@ -115,7 +116,8 @@ fn about<'a>(named: Named) -> &'a str {
         Named::Where =>
             "Prints at which line and in which instance the instruction of a position stands",
         Named::Run => "Runs a program over a file of commands, and prints one answer a line",
-        Named::Sim => "Runs a schedule over replicas of a program, and prints a report",
+        Named::Sim =>
+            "Runs a schedule over replicas of a program, and prints a report; or a group by virtual time",
         Named::Format =>
             "Makes a group, or the store of one machine of it, or puts that into another epoch",
         Named::Show => "Prints what the store of a machine has",
@@ -204,15 +206,21 @@ fn run_forms() -> [Form; 3] {
     [source(), commands, budget()]
 }
 
-fn sim_forms() -> [Form; 5] {
+fn sim_forms() -> [Form; 11] {
     [
         source(),
-        file("SCHEDULE").help("The schedule, in JSON"),
+        schedule(),
         failures(),
         every(0).help(
             "After how many commands a replica makes a checkpoint, 0 to 65535; 0 is never",
         ),
         budget(),
+        simulated_group(),
+        seed(),
+        hours(),
+        faults(),
+        until(),
+        told(),
     ]
 }
 

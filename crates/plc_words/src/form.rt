@@ -20,6 +20,8 @@ pub(crate) enum Kind {
     Number(&'static str, i64, i64),
     /// It's an option with one of these words.
     OneOf(&'static str, &'static [&'static str]),
+    /// The same, which may be given more than once.
+    SomeOf(&'static str, &'static [&'static str]),
 }
 
 /// An argument of a command.
@@ -113,6 +115,9 @@ fn taking<'a>(form: &Form, arg: Arg<'a>) -> Arg<'a> {
             option(form, arg, value, ValueParser::Signed(least, most))
         }
         Kind::OneOf(value, words) => option(form, arg, value, ValueParser::Names(words)),
+        Kind::SomeOf(value, words) => {
+            option(form, arg, value, ValueParser::Names(words)).action(ArgAction::Append)
+        }
     }
 }
 

@@ -9,9 +9,9 @@ use crate::error::WordsError;
 use crate::operators::OperatorsAt;
 use crate::options::{
     BUDGET, CHANGE, CHANGED, CHECK, CONSOLE, CONSOLE_KEY, CONSOLE_SOCKET, CRASH, DIRECTORY, EPOCH,
-    EVERY, FAILURES, FORGET, GROUP, IDLE, LINKS, LISTED, MACHINE, NEW_GROUP, NEXT_EPOCH, ONCE,
-    PERIOD, PLACE, PORT, POSITION, REPORT, SCANS, STALE, STATUS, STOP, STORE, TCP, TIMEOUT, TRACE,
-    WAIT,
+    EVERY, FAILURES, FAULTS, FORGET, GROUP, HOURS, IDLE, LINKS, LISTED, MACHINE, NEW_GROUP,
+    NEXT_EPOCH, ONCE, PERIOD, PLACE, PORT, POSITION, REPORT, SCANS, SEED, STALE, STATUS, STOP,
+    STORE, TCP, TIMEOUT, TRACE, UNTIL, WAIT,
 };
 use crate::places::place_at;
 use clap::ArgMatches;
@@ -93,6 +93,21 @@ pub enum Words<'a> {
         schedule: &'a str,
         config: Config,
         budget: Budget,
+    },
+    /// Runs the group of a file by virtual time, each machine of which runs the program of another.
+    SimGroup {
+        source: &'a str,
+        /// The file of the group.
+        group: &'a str,
+        seed: u32,
+        /// Of virtual time.
+        hours: u32,
+        /// The words of the kinds of faults that come.
+        faults: Vec<&'a str>,
+        /// The step behind which it ends, if that is before.
+        until: Option<u64>,
+        /// Whether what happens is printed.
+        is_traced: bool,
     },
     /// Makes the store of a machine, which begins with the program of a file.
     Format {
@@ -250,13 +265,22 @@ fn shown_at(alloc: Global, inner: &ArgMatches) -> Result<Option<SocketAddr>, Wor
 
 /// The directories for the stores.
 fn directories<'a>(alloc: Global, inner: &ArgMatches<'a>) -> Result<Vec<&'a str>, AllocError> {
-    let mut stores = Vec::new(alloc);
-    if let Some(given) = inner.get_strs(STORE) {
-        for store in given {
-            stores.push(*store)?;
+    given_strs(alloc, inner, STORE)
+}
+
+/// The values of an option that may be given more than once.
+fn given_strs<'a>(
+    alloc: Global,
+    inner: &ArgMatches<'a>,
+    word: &str,
+) -> Result<Vec<&'a str>, AllocError> {
+    let mut values = Vec::new(alloc);
+    if let Some(given) = inner.get_strs(word) {
+        for value in given {
+            values.push(*value)?;
         }
     }
-    Ok(stores)
+    Ok(values)
 }
 
 /// What is to be served, in one directory or in one for each replica.
@@ -335,6 +359,7 @@ fn form_of<'a>(alloc: Global, matches: &ArgMatches<'a>) -> Result<Option<Words<'
             Some(group) => served_machine(alloc, inner, group),
             None => served_alone(alloc, inner),
         },
+        "sim" => simulated(alloc, inner),
         "ask" => asked(alloc, inner),
         "where" => located(alloc, inner),
         "field" => carried(alloc, inner),
@@ -352,7 +377,6 @@ fn worked<'a>(name: &str, inner: &ArgMatches<'a>) -> Option<Words<'a>>
         "names" => named(inner),
         "diff" => compared(inner),
         "run" => run(inner),
-        "sim" => simulated(inner),
         "format" => formatted(inner),
         "show" => shown(inner),
         _ => None,
@@ -427,7 +451,43 @@ fn run<'a>(inner: &ArgMatches<'a>) -> Option<Words<'a>>
     })
 }
 
-fn simulated<'a>(inner: &ArgMatches<'a>) -> Option<Words<'a>>
+/// What is run by virtual time: a schedule, or a group.
+fn simulated<'a>(alloc: Global, inner: &ArgMatches<'a>) -> Result<Option<Words<'a>>, WordsError>
+    ensures { IfOk result (λ form. IfSome form IsLostAfterAMinute) }
+{
+    match inner.get_str(GROUP) {
+        Some(group) => Ok(simulated_group(alloc, inner, group)?),
+        None => Ok(simulated_schedule(inner)),
+    }
+}
+
+fn simulated_group<'a>(
+    alloc: Global,
+    inner: &ArgMatches<'a>,
+    group: &'a str,
+) -> Result<Option<Words<'a>>, AllocError>
+    ensures { IfOk result (λ form. IfSome form IsLostAfterAMinute) }
+{
+    let faults = given_strs(alloc, inner, FAULTS)?;
+    let (Some(source), Some(seed), Some(hours)) = (
+        inner.get_str("SOURCE"),
+        inner.get_one::<u32>(SEED),
+        inner.get_one::<u32>(HOURS),
+    ) else {
+        return Ok(None);
+    };
+    Ok(Some(Words::SimGroup {
+        source,
+        group,
+        seed,
+        hours,
+        faults,
+        until: inner.get_one::<u64>(UNTIL),
+        is_traced: inner.get_flag(TRACE),
+    }))
+}
+
+fn simulated_schedule<'a>(inner: &ArgMatches<'a>) -> Option<Words<'a>>
     ensures { IfSome result IsLostAfterAMinute }
 {
     Some(Words::Sim {

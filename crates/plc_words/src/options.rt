@@ -148,11 +148,54 @@ const NO_STATUS: &[&str] = &[CHECK, ONCE, STOP];
 /// The text of a program, by its place.
 pub(crate) const SOURCE: &str = "SOURCE";
 
+/// The schedule of replicas, by its place.
+pub(crate) const SCHEDULE: &str = "SCHEDULE";
+
+/// The word of the option `--seed`.
+pub(crate) const SEED: &str = "seed";
+
+/// The word of the option `--hours`.
+pub(crate) const HOURS: &str = "hours";
+
+/// The word of the option `--faults`, and its values.
+pub(crate) const FAULTS: &str = "faults";
+
+const KINDS_OF_FAULTS: &[&str] = &[
+    "none",
+    "all",
+    "crash",
+    "power",
+    "pause",
+    "stop",
+    "loss",
+    "delay",
+    "reorder",
+    "cut",
+    "one-way",
+    "isolate",
+    "disk-full",
+    "disk-slow",
+    "disk-read-only",
+    "disk-lost",
+];
+
+/// The word of the option `--until`.
+pub(crate) const UNTIL: &str = "until";
+
+/// What a schedule has for its replicas, where a group's file has its own.
+const OF_SCHEDULES: &[&str] = &[SCHEDULE, FAILURES, EVERY, BUDGET];
+
 /// The greatest number of a port.
 const MOST_PORT: i64 = 65_535;
 
 /// The greatest number of 32 bits.
 const MOST: i64 = 4_294_967_295;
+
+/// The greatest number of a step.
+const MOST_STEP: i64 = i64::MAX;
+
+/// The most hours of a run: a year, in which clients can count their writes by two words.
+const MOST_HOURS: i64 = 8_760;
 
 /// A file by its place. It's wanted.
 pub(crate) fn file(name: &'static str) -> Form {
@@ -373,4 +416,55 @@ pub(crate) fn stop() -> Form {
 /// The option is refused where it isn't carried without an end.
 pub(crate) fn field_status() -> Form {
     status().refused_beside(NO_STATUS)
+}
+
+/// The schedule is wanted where no group is given, and refused where one is.
+pub(crate) fn schedule() -> Form {
+    Form::new(SCHEDULE, Kind::File)
+        .help("The schedule, in JSON")
+        .wanted_unless(&[GROUP])
+}
+
+/// The option is refused beside what a schedule has, and wants a seed.
+pub(crate) fn simulated_group() -> Form {
+    text(GROUP, "GROUP")
+        .help("The file of a group, in place of SCHEDULE: it runs by virtual time")
+        .refused_beside(OF_SCHEDULES)
+        .only_beside(SEED)
+}
+
+/// The option is refused where no group is run.
+pub(crate) fn seed() -> Form {
+    number(SEED, "S", 0, MOST)
+        .help("By which all goes that comes by chance, 0 to 4294967295")
+        .only_beside(GROUP)
+}
+
+/// The option is refused where no group is run.
+pub(crate) fn hours() -> Form {
+    number(HOURS, "H", 1, MOST_HOURS)
+        .default_value("1")
+        .help("How many hours of virtual time, 1 to 8760")
+        .only_beside(GROUP)
+}
+
+/// The option is refused where no group is run.
+pub(crate) fn faults() -> Form {
+    Form::new(FAULTS, Kind::SomeOf("KIND", KINDS_OF_FAULTS))
+        .help("A kind of faults that come; without it, none do")
+        .only_beside(GROUP)
+}
+
+/// The option is refused where no group is run.
+pub(crate) fn until() -> Form {
+    number(UNTIL, "N", 1, MOST_STEP)
+        .help("Ends the run behind step N")
+        .only_beside(GROUP)
+}
+
+/// The option is refused where no group is run.
+pub(crate) fn told() -> Form {
+    flag(TRACE)
+        .help("Prints what happens, a line each")
+        .only_beside(GROUP)
 }

@@ -28,6 +28,17 @@ fn shown(alloc: Global, words: &Words) -> Result<String, AllocError> {
             let settings = service(alloc, settings, operators)?;
             format!(in alloc; "serve {source}, stores {stores:?}, report {report:?}\n{settings}")
         }
+        Words::SimGroup {
+            source,
+            group,
+            seed,
+            hours,
+            faults,
+            until,
+            is_traced,
+        } => format!(in alloc;
+            "sim {source} by {group}, seed {seed}, hours {hours}\nfaults {faults:?}, until {until:?}, traced {is_traced}"
+        ),
         _ => of_another(alloc, words),
     }
 }
