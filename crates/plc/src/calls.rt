@@ -29,7 +29,7 @@ pub(crate) fn flushed<W: Write, E: CountedWrite>(status: u8, out: &mut W, err: &
 }
 
 /// The status of a call that ended so: what it told is passed on, unless the output failed, which is told instead.
-fn ended<W: Write, E: CountedWrite>(
+pub(crate) fn ended<W: Write, E: CountedWrite>(
     status: u8,
     failures: u64,
     told: &[u8],

@@ -13,6 +13,7 @@ mod operators;
 mod random;
 mod serving;
 mod showing;
+mod simulating;
 mod stores;
 mod tracing;
 
@@ -26,6 +27,7 @@ use crate::machines::{Machine, tell_unserved};
 use crate::operators::operators_of;
 use crate::serving::{Report, Serving, settled};
 use crate::showing::{another_showing, notices_at, notices_of};
+use crate::simulating::{kinds_of, sim_group};
 use crate::stores::Formatted;
 use crate::tracing::{Life, close, next_life};
 use il_text::{Fault, tell};
@@ -40,6 +42,7 @@ use plc_serve::serve;
 use plc_status::ReportFile;
 use plc_tool::Group;
 use plc_words::{Words, WordsError, read_words, tell_words};
+use sim_run::Run;
 use std::alloc::Global;
 use std::io::{BufWriter, Write};
 use std::marker::Brand;
@@ -245,6 +248,36 @@ fn done<W: Write, E: CountedWrite>(
             config,
             budget,
         } => calls::sim(rt, source, schedule, &Group { config, budget }, out, err),
+        _ => simulated(rt, words, out, err),
+    }
+}
+
+/// Runs a group by virtual time where words ask for that, and prints what is seen: the status; 0 where they don't.
+fn simulated<W: Write, E: CountedWrite>(
+    rt: &HostRuntime,
+    words: &Words,
+    out: &mut W,
+    err: &mut E,
+) -> u8 {
+    match words {
+        Words::SimGroup {
+            source,
+            group,
+            seed,
+            hours,
+            faults,
+            until,
+            is_traced,
+        } => {
+            let run = Run {
+                seed: u64::from(*seed),
+                hours: u64::from(*hours),
+                steps: *until,
+                is_traced: *is_traced,
+                kinds: kinds_of(faults.as_slice()),
+            };
+            sim_group(rt, *source, *group, &run, out, err)
+        }
         _ => kept(rt, words, out, err),
     }
 }
