@@ -49,7 +49,7 @@ pub(crate) const COMMANDS: &str = with_source_faults!(
   \"continue\"                 goes on with the held scan
   \"cr\"                       tells the current result of the held or stopped scan
   \"reset\"                    starts cold again; forces, breakpoints, moment and count stay
-  \"warm\"                     starts warm: the same, but what stands behind VAR_GLOBAL RETAIN stays too
+  \"warm\"                     starts warm: the same, but what is declared RETAIN stays too
   {\"force\":[\"%IX0.0\",true]}  lays a value over a location of %I or %Q: a truth value over a bit,
                              a number over a word
   {\"unforce\":\"%IX0.0\"}       takes it off again
