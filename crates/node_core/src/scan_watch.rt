@@ -6,7 +6,7 @@ use il_model::{Command, InImage};
 use plc_machine::{LastScan, SeenScan};
 use std::alloc::Global;
 use std::time::Duration;
-use vr_model::Request;
+use vr_model::{Request, Standing};
 use vr_replica::{Replica, ScanInputs};
 
 /// What is known of the last scan.
@@ -19,6 +19,14 @@ enum Known {
     At(u64, ScanInputs),
 }
 
+/// How a replica stood, and how far its log was.
+#[derive(Clone, Copy, PartialEq, Eq)]
+struct Look {
+    standing: Standing,
+    count: u64,
+    commit: u64,
+}
+
 /// Follows the last scan of a replica's log, step by step.
 #[derive(Clone, Copy)]
 pub(crate) struct ScanWatch {
@@ -28,6 +36,17 @@ pub(crate) struct ScanWatch {
     count: u64,
     committed: u64,
     seen: Option<SeenScan>,
+    /// At the last look, if there was one.
+    look: Option<Look>,
+}
+
+/// How a replica stands.
+fn look_at(replica: &Replica) -> Look {
+    Look {
+        standing: replica.standing(),
+        count: replica.op_number(),
+        commit: replica.commit(),
+    }
 }
 
 /// The place of the last scan among the entries that a replica keeps.
@@ -63,6 +82,7 @@ impl ScanWatch {
             count: 0,
             committed: 0,
             seen: None,
+            look: None,
         }
     }
 
@@ -124,8 +144,18 @@ impl ScanWatch {
         }
     }
 
+    /// Whether the last scan is known of a log that was as long at the last look: then it's that one still.
+    fn is_as_before(&self, look: Look) -> bool {
+        self.look == Some(look) && matches!(self.known, Known::At(_, _))
+    }
+
     /// Looks at the replica behind a step of it.
     pub(crate) fn look(&mut self, alloc: Global, replica: &Replica, now: Duration) {
+        let look = look_at(replica);
+        if self.is_as_before(look) {
+            return;
+        }
+        self.look = Some(look);
         match (last_place(replica), replica.last_scan()) {
             (Some(place), Some(scan)) => self.see(place, scan, now),
             _ if replica.is_normal() => self.see_checkpoint(alloc, replica, now),
