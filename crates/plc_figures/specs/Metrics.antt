@@ -112,6 +112,13 @@ starts_line shown = replica_sample (codes "plc_replica_starts_total") shown.numb
 abbrev pub starts_lines : List Replica → List ℕ
 starts_lines replicas = flat_map starts_line replicas
 
+-- whether a replica's store failed since it was started last
+abbrev pub failed_line : Replica → List ℕ
+failed_line shown = replica_sample (codes "plc_replica_store_failed") shown.number (flag_number shown.has_failed)
+
+abbrev pub failed_lines : List Replica → List ℕ
+failed_lines replicas = flat_map failed_line replicas
+
 -- each replica by its number
 abbrev pub group_metrics : List Replica → List ℕ
 group_metrics replicas =
@@ -119,7 +126,10 @@ group_metrics replicas =
     ++ (normal_lines replicas
     ++ (family_text (codes "plc_replica_starts_total") (codes "counter") (codes "Starts of the replica from its store.")
     ++ (starts_lines replicas
-    ++ gauge_text (codes "plc_view") (codes "The greatest view of a replica.") (greatest_view replicas))))
+    ++ (family_text (codes "plc_replica_store_failed") (codes "gauge")
+    (codes "Whether the replica's store failed since it was started last.")
+    ++ (failed_lines replicas
+    ++ gauge_text (codes "plc_view") (codes "The greatest view of a replica.") (greatest_view replicas))))))
 
 abbrev pub hearing_metrics : Machine → List ℕ
 hearing_metrics machine =

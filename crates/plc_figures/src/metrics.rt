@@ -6,6 +6,7 @@ ghost use Rattle.plc_figures.specs.Metrics.{replica_sample, sample, seconds_samp
 ghost use Rattle.plc_figures.specs.Metrics.{age_metrics, held_number, known_age};
 ghost use Rattle.plc_figures.specs.Metrics.{scan_counts, scan_metrics, stopped_number};
 ghost use Rattle.plc_figures.specs.Metrics.{bucket_line, bucket_lines, bucket_text, interval_metrics, totals_text};
+ghost use Rattle.plc_figures.specs.Metrics.{failed_line, failed_lines};
 ghost use Rattle.plc_figures.specs.Metrics.{group_metrics, normal_line, normal_lines, starts_line, starts_lines};
 ghost use Rattle.plc_figures.specs.Metrics.{hearing_metrics, known_machine, machine_metrics};
 ghost use Rattle.plc_figures.specs.Metrics.{exception_line, exception_lines, function_line, function_lines};
@@ -310,6 +311,28 @@ fn put_starts(out: &mut Vec<u8>, replicas: &[Replica]) -> Result<(), AllocError>
     Ok(())
 }
 
+/// Whether a replica's store failed.
+fn put_failed_one(out: &mut Vec<u8>, shown: &Replica) -> Result<(), AllocError>
+    ensures { OnOk result (IsAdded out.old.items (failed_line shown.now) out.new.items) }
+{
+    put_of_replica(
+        out,
+        b"plc_replica_store_failed",
+        shown.number,
+        flag(shown.has_failed),
+    )
+}
+
+/// Whether each replica's store failed.
+fn put_failed(out: &mut Vec<u8>, replicas: &[Replica]) -> Result<(), AllocError>
+    ensures { OnOk result (IsAdded out.old.items (failed_lines replicas.now) out.new.items) }
+{
+    for shown in replicas {
+        put_failed_one(out, shown)?;
+    }
+    Ok(())
+}
+
 /// The greatest view that shows.
 pub(crate) fn greatest_view(replicas: &[Replica]) -> u64
     ensures { result ≡ greatest_view replicas.now }
@@ -337,6 +360,13 @@ fn put_group(out: &mut Vec<u8>, replicas: &[Replica]) -> Result<(), AllocError>
         b"Starts of the replica from its store.",
     )?;
     put_starts(out, replicas)?;
+    put_family(
+        out,
+        b"plc_replica_store_failed",
+        b"gauge",
+        b"Whether the replica's store failed since it was started last.",
+    )?;
+    put_failed(out, replicas)?;
     put_gauge(
         out,
         b"plc_view",
