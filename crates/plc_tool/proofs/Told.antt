@@ -1,5 +1,5 @@
 -- The lines of the answers that are told, and of those that are still to come.
-use Rattle.std.proofs.Common.{◌≡◌, ◌+◌, ◌<◌, ℕ, List, ◌∷◌, ◌++◌, drop, length, get_or, ap, sym, ◌∙◌, append_assoc}
+use Rattle.std.proofs.Common.{◌≡◌, ◌+◌, ◌<◌, ℕ, List, ◌++◌, drop, length, get_or, ap, sym, ◌∙◌, append_assoc}
 use Rattle.il_model.specs.declared.command.Answer.{Answer}
 use Rattle.ctl_debugger.specs.Owned.{Owned}
 use Rattle.ctl_debugger.specs.Outcome.{outcome}

@@ -1,5 +1,5 @@
 -- Why a text gives no change.
-use Rattle.std.proofs.Common.{◌≡◌, ◌<◌, ◌≤◌, ◌⊎◌, inl, inr, ℕ, List, length, Bool, false, true, Result, Ok, Err, IfErr, Vec, Global, refl, subst, sym, arith}
+use Rattle.std.proofs.Common.{◌≡◌, ◌≤◌, inl, inr, ℕ, List, length, Bool, false, true, Result, Ok, Err, IfErr, Vec, Global, refl, subst, sym, arith}
 use Rattle.std.specs.Result.{IsErrAnd}
 use Rattle.il_model.specs.declared.limits.TheConstants.{MOST_IMAGE_BYTES}
 use Rattle.il_text.specs.declared.fault.Fault.{Fault}

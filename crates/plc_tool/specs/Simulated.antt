@@ -7,7 +7,6 @@ use Rattle.il_model.specs.Program.{Program}
 use Rattle.il_model.specs.declared.command.Command.{Command}
 use Rattle.il_model.specs.declared.command.Command.TheVariants.{Force, Unforce, ReadVar}
 use Rattle.ctl_model.specs.Slots.{slot_of}
-use Rattle.il_model.specs.declared.command.Answer.{Answer}
 use Rattle.vr_model.specs.Membership.{Group}
 use Rattle.il_loader.specs.Images.{Reading, ReadsImages}
 use Rattle.ctl_debugger.specs.Owned.{cold_owned}

@@ -1,6 +1,6 @@
 //! The answers of a text to commands.
 
-ghost use Rattle.std.specs.Prelude.{◌≡◌, IfOk, IfErr};
+ghost use Rattle.std.specs.Prelude.{IfOk, IfErr};
 ghost use Rattle.il_text.specs.Meaning.{IsTextFault, OrMemory};
 ghost use Rattle.plc_tool.specs.Calls.{IsAnswered};
 
