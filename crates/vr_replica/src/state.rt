@@ -25,7 +25,7 @@ use vr_model::{Config, Request, Standing, Status};
 /// A replica of a group. What it keeps in memory goes with a crash; what its store keeps stays.
 #[derive(Drop)]
 pub struct Replica {
-    pub(crate) core: Core,
+    pub core: Core,
 }
 
 impl Replica {
