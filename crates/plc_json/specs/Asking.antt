@@ -17,7 +17,7 @@ use Rattle.plc_json.specs.declared.command.NamedCommand.{NamedCommand}
 use Rattle.plc_json.specs.declared.command.NamedCommand.TheVariants.{Plain}
 use Rattle.plc_json.specs.declared.question.Asked.{Asked}
 use Rattle.plc_json.specs.declared.question.Question.{Question}
-use Rattle.plc_json.specs.declared.question.Question.TheVariants.{Forces, Breaks, Program, Status}
+use Rattle.plc_json.specs.declared.question.Question.TheVariants.{Forces, Breaks, Program, Image, Status}
 use Rattle.plc_json.specs.declared.question.Asked.TheVariants as asked
 use Rattle.plc_json.specs.Commands.{Named, named, command_of, each_in, all_of}
 
@@ -72,7 +72,8 @@ abbrev pub question_of : List ℕ → Option Question
 question_of word = if bytes_eq word (codes "forces") then Some Forces else (
     if bytes_eq word (codes "breaks") then Some Breaks else (
     if bytes_eq word (codes "program") then Some Program else (
-    if bytes_eq word (codes "status") then Some Status else None)))
+    if bytes_eq word (codes "image") then Some Image else (
+    if bytes_eq word (codes "status") then Some Status else None))))
 
 abbrev pub question_in : Data → Option Question
 question_in d = option_and_then question_of (as_str d)

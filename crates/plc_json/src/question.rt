@@ -22,6 +22,8 @@ pub enum Question {
     Breaks,
     /// Which program is in force.
     Program,
+    /// The image of that program.
+    Image,
     /// How many scans there were, and how its replicas are.
     Status,
 }
@@ -67,6 +69,7 @@ fn question_of(word: &str) -> Option<Question>
         "forces" => Some(Question::Forces),
         "breaks" => Some(Question::Breaks),
         "program" => Some(Question::Program),
+        "image" => Some(Question::Image),
         "status" => Some(Question::Status),
         _ => None,
     }
