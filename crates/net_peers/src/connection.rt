@@ -9,12 +9,13 @@ ghost use Rattle.net_peers.specs.Heard.{IsAccepted};
 ghost use Rattle.net_peers.specs.Passing.{IsRefused, MayPass, is_scan, may_pass};
 
 use crate::accepted::Accepted;
+use crate::carrier::Carrier;
+use crate::meeting::Line;
 use il_model::Command;
-use mio::net::TcpStream as Wire;
-use net_ends::{Flow, Inbox, Loss, NonBlocking, Outbox, Stop};
+use net_ends::{Flow, Inbox, Loss, Outbox, Stop};
 use net_hello::{Hello, Known, Refusal, judge};
 use net_links::is_between;
-use net_records::{Records, Signs};
+use net_records::Signs;
 use std::alloc::{AllocError, Global};
 use vr_model::{Body, Message, Party};
 
@@ -32,7 +33,7 @@ pub(crate) enum Unopened {
 #[derive(Drop)]
 pub(crate) struct Connection {
     accepted: Accepted,
-    records: Records<NonBlocking<Wire>>,
+    records: Carrier,
     inbox: Inbox,
     outbox: Outbox,
     /// Whether there may be something to read.
@@ -58,16 +59,16 @@ fn may_pass(message: &Message, from: Party, to: Party) -> bool
 
 impl Connection {
     /// A connection over which nothing came behind this hello. It fails only where memory runs out.
-    fn open(alloc: Global, own: &Hello, hello: &Hello, wire: Wire) -> Result<Connection, AllocError>
+    fn open(alloc: Global, own: &Hello, hello: &Hello, line: Line) -> Result<Connection, AllocError>
         requires { IsAccepted own.now hello.now }
         ensures own { IfOk result (λ connection. connection.accepted.own ≡ own.now) }
         ensures hello { IfOk result (λ connection. connection.accepted.hello ≡ hello.now) }
     {
         // Where it can't be set the connection is slower.
-        let _ = wire.set_nodelay(true);
+        let _ = line.wire.set_nodelay(true);
         Ok(Connection {
             accepted: Accepted::new(own, hello),
-            records: Records::new(alloc, NonBlocking::new(wire))?,
+            records: Carrier::new(alloc, line)?,
             inbox: Inbox::new(alloc)?,
             outbox: Outbox::new(alloc),
             is_ready: true,
@@ -81,7 +82,7 @@ impl Connection {
         own: &Hello,
         seen: Option<Known>,
         hello: &Hello,
-        wire: Wire,
+        line: Line,
     ) -> Result<Connection, Unopened>
         ensures own { IfOk result (λ connection. connection.accepted.own ≡ own.now) }
         ensures hello { IfOk result (λ connection. connection.accepted.hello ≡ hello.now) }
@@ -92,7 +93,7 @@ impl Connection {
             Ok(()) => {}
             Err(refusal) => return Err(Unopened::Refused(refusal)),
         }
-        match Connection::open(alloc, own, hello, wire) {
+        match Connection::open(alloc, own, hello, line) {
             Ok(connection) => Ok(connection),
             Err(_) => Err(Unopened::Memory),
         }
@@ -119,9 +120,22 @@ impl Connection {
     /// Writes what waits. False where the connection is over.
     fn flush(&mut self) -> bool {
         match self.records.push() {
-            Ok(()) => self.outbox.flush(&mut self.records),
+            Ok(()) => self.outbox.flush(&mut self.records) && self.push(),
             Err(stop) => stop == Stop::ForNow,
         }
+    }
+
+    /// Writes what was taken and waits. False where the connection is over.
+    fn push(&mut self) -> bool {
+        match self.records.push() {
+            Ok(()) => true,
+            Err(stop) => stop == Stop::ForNow,
+        }
+    }
+
+    /// Whether it's over because a record came that was forged or damaged.
+    pub(crate) fn is_forged(&self) -> bool {
+        self.records.is_forged()
     }
 
     /// Sends a message: `false` where the connection is over. One that's lost changes nothing.

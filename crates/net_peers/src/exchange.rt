@@ -1,7 +1,7 @@
 //! The parties of one machine: what waits for each of them, and what is known of the connections to other machines.
 
-use crate::greeting::VISIT;
 use crate::notice::LinkNotice;
+use crate::visiting::Visited;
 use crate::waiting::Waiting;
 use mio::Waker;
 use net_hello::Epoch;
@@ -56,7 +56,7 @@ pub struct Exchange {
     slots: Vec<Slot>,
     notices: Waiting<LinkNotice>,
     hellos: Waiting<(u8, Epoch)>,
-    visits: Waiting<[u8; VISIT]>,
+    visits: Waiting<Visited>,
     stores: Waiting<(u8, u64)>,
     /// Which replicas are connected to the machine's own, by bits.
     reached: AtomicU8,
@@ -161,13 +161,13 @@ impl Exchange {
     }
 
     /// A visit came.
-    pub(crate) fn visited<R: Wait>(&self, rt: &R, visit: [u8; VISIT]) {
+    pub(crate) fn visited<R: Wait>(&self, rt: &R, visit: Visited) {
         self.visits.add(rt, visit);
     }
 
     /// The visits since that was asked last, the earliest first. Of their bytes the first eight alone are known: those
     /// of a visit.
-    pub fn visits<R: Wait>(&self, rt: &R, alloc: Global) -> Vec<[u8; VISIT]> {
+    pub fn visits<R: Wait>(&self, rt: &R, alloc: Global) -> Vec<Visited> {
         self.visits.take(rt, alloc)
     }
 

@@ -10,7 +10,9 @@ use crate::accepted::Accepted;
 use crate::connection::Connection;
 use crate::exchange::{Exchange, PeerCutter};
 use crate::greeting::{greet, heard_in};
-use crate::machine::EVENTS;
+use crate::guard::{Guard, machine_of};
+use crate::machine::{EVENTS, FIRST_CONSOLE};
+use crate::meeting::{Line, say};
 use crate::notice::{LinkNotice, Told};
 use crate::peer::{Change, Peer};
 use crate::strangers::{Introduced, Strangers};
@@ -18,10 +20,12 @@ use mio::net::{TcpListener as Listener, TcpStream as Wire};
 use mio::{Events, Interest, Poll, Token};
 use net_ends::Loss;
 use net_hello::{Hello, Known, Refusal, said_to_strangers};
+use net_keys::ChallengeFault;
 use net_links::is_same;
 use std::alloc::{AllocError, Global};
 use std::io;
 use std::net::{Net, SocketAddr, TcpListener, TcpStream};
+use std::random::RandomSource;
 use std::sync::{Arc, Wait};
 use std::time::{Clock, Duration, Instant};
 use vr_model::{Message, Party};
@@ -29,6 +33,9 @@ use vr_ports::{Input, Link, Relink, Unlinked};
 
 /// How often in a row a link may give what came with no look at what else happened.
 const MOST_UNSEEN: u32 = 64;
+
+/// So many causes are told of who isn't met.
+const MOST_UNMET: usize = 64;
 
 /// The token of what wakes a link: no connection has it.
 pub(crate) const WAKER: usize = usize::MAX;
@@ -51,6 +58,10 @@ pub struct PeerLink<R: Wait + Drop> {
     pub(crate) party: Party,
     /// What it says first, to one of which it knows nothing.
     pub(crate) own: Hello,
+    /// By which it proves that it's of the group, where that has a key.
+    pub(crate) guard: Option<Guard>,
+    /// Who wasn't met, and why, as far as that was told.
+    pub(crate) unmet: Vec<(Option<u8>, ChallengeFault)>,
     /// Times are counted from here.
     pub(crate) started: Instant,
     pub(crate) listener: Option<Listener>,
@@ -129,7 +140,7 @@ fn token_at(events: &Events<Global>, place: usize) -> Option<usize> {
 
 impl<R> PeerLink<R>
 where
-    R: Wait + Clock + Net<Listener = TcpListener, Stream = TcpStream> + Copy + Drop,
+    R: Wait + Clock + RandomSource + Net<Listener = TcpListener, Stream = TcpStream> + Copy + Drop,
 {
     /// From now on other machines' parties are taken at this listener.
     pub(crate) fn listen(&mut self, listener: TcpListener) -> io::Result<()> {
@@ -164,6 +175,20 @@ where
         }
     }
 
+    /// Tells why whoever says that it's this machine isn't met, unless that was told; of a machine that the group hasn't
+    /// no number is told.
+    fn unmet(&mut self, machine: Option<u8>, fault: ChallengeFault)
+        ensures { self.new.party ≡ self.old.party }
+    {
+        let known = machine.filter(|number: &u8| *number < FIRST_CONSOLE);
+        let unmet = (known, fault);
+        if self.unmet.len() < MOST_UNMET && !self.unmet.as_slice().contains(&unmet) {
+            // Where memory runs out it's told again.
+            let _ = self.unmet.push(unmet);
+            self.tell(LinkNotice::Unmet(known, fault));
+        }
+    }
+
     /// Tells what changed, if this is a replica's link: one link of a machine does.
     fn tell(&self, notice: LinkNotice) {
         if let Party::Replica(_) = self.party {
@@ -189,9 +214,12 @@ where
             Change::None => {}
             Change::Joined => {
                 self.told.forget(party);
+                self.unmet.clear();
                 self.tell(LinkNotice::Joined(party));
             }
             Change::Lost => self.tell(LinkNotice::Lost(party)),
+            Change::Forged => self.tell(LinkNotice::Forged(party)),
+            Change::Unmet(fault) => self.unmet(Some(machine_of(party)), fault),
             Change::Refused(refusal) => self.refuse(Some(party), refusal),
         }
     }
@@ -221,7 +249,8 @@ where
             }
             return;
         }
-        let (party, change) = (peer.party, peer.tend(self.alloc, &self.own, now));
+        let (rt, alloc, guard) = (&self.rt, self.alloc, self.guard);
+        let (party, change) = (peer.party, peer.tend(rt, alloc, guard, &self.own, now));
         let (heard, store) = (peer.take_heard(), peer.take_store());
         if let Some(hello) = heard {
             self.hear(&hello);
@@ -254,7 +283,12 @@ where
         ensures { self.new.party ≡ self.old.party }
     {
         match introduced {
-            Introduced::Said(wire, hello) => self.answer(wire, &hello, now),
+            Introduced::Said(wire, hello) => self.answer(Line::plain(wire), &hello, now),
+            Introduced::Met(wire, proved) => {
+                let hello = proved.hello;
+                self.answer(Line::sealed(wire, proved.ends), &hello, now);
+            }
+            Introduced::Unmet(machine, fault) => self.unmet(machine, fault),
             Introduced::OtherVersion(wire) => {
                 let mut wire = wire;
                 greet(self.alloc, &mut wire, &said_to_strangers(self.party));
@@ -273,35 +307,35 @@ where
     }
 
     /// Answers this hello, and keeps the connection if it's accepted.
-    fn answer(&mut self, wire: Wire, hello: &Hello, now: u64)
+    fn answer(&mut self, line: Line, hello: &Hello, now: u64)
         ensures { self.new.party ≡ self.old.party }
     {
         self.hear(hello);
         let answer = self.own.answer_to(hello, self.known(hello.party, now));
-        let mut wire = wire;
-        if greet(self.alloc, &mut wire, &answer) {
-            let change = self.join(hello, wire, now);
+        let mut line = line;
+        if say(self.alloc, &mut line, &answer).is_some() {
+            let change = self.join(hello, line, now);
             self.note(hello.party, change);
         }
     }
 
     /// Keeps a connection that came in, if its hello is accepted: what there was of its party is over.
-    fn join(&mut self, hello: &Hello, wire: Wire, now: u64) -> Change
+    fn join(&mut self, hello: &Hello, line: Line, now: u64) -> Change
         ensures { self.new.party ≡ self.old.party }
     {
         let place = self.place_of(hello.party);
-        let mut wire = wire;
+        let mut line = line;
         let both = Interest::READABLE | Interest::WRITABLE;
         if self
             .poll
             .registry()
-            .reregister(&mut wire, Token(place), both)
+            .reregister(&mut line.wire, Token(place), both)
             .is_err()
         {
             return Change::None;
         }
         let seen = self.peers.get(place).and_then(|peer| peer.seen(now));
-        match Connection::accept(self.alloc, &self.own, seen, hello, wire) {
+        match Connection::accept(self.alloc, &self.own, seen, hello, line) {
             Ok(connection) => match self.peers.get_mut(place) {
                 Some(peer) => peer.opens(self.alloc, connection, now),
                 None => Change::None,
@@ -324,7 +358,8 @@ where
             self.strangers.accept(listener, self.poll.registry(), now);
         }
         for place in 0..self.strangers.count() {
-            if let Some(introduced) = self.strangers.hear(place, now) {
+            let (rt, alloc) = (&self.rt, self.alloc);
+            if let Some(introduced) = self.strangers.hear(rt, alloc, place, &self.own, now) {
                 self.welcome(introduced, now);
             }
         }
@@ -567,7 +602,7 @@ fn keep_to(messages: &mut Vec<Message>, party: Party)
 
 impl<R> Link for PeerLink<R>
 where
-    R: Wait + Clock + Net<Listener = TcpListener, Stream = TcpStream> + Copy + Drop,
+    R: Wait + Clock + RandomSource + Net<Listener = TcpListener, Stream = TcpStream> + Copy + Drop,
 {
     ghost inputs = { λ _. None };
 
@@ -592,6 +627,7 @@ impl<R> Relink for PeerLink<R>
 where
     R: Wait
         + Clock
+        + RandomSource
         + Net<Listener = TcpListener, Stream = TcpStream>
         + Copy
         + Send

@@ -2,6 +2,7 @@
 
 use crate::course::Pulse;
 use crate::exchange::Exchange;
+use crate::guard::Guard;
 use crate::link::{LISTENER, PeerLink, WAKER};
 use crate::notice::Told;
 use crate::peer::Peer;
@@ -9,10 +10,12 @@ use crate::strangers::Strangers;
 use mio::net::TcpListener as Listener;
 use mio::{Events, Interest, Poll, Token, Waker};
 use net_hello::{Epoch, Hello, Known};
+use net_keys::Keys;
 use std::alloc::Global;
 use std::io;
 use std::io::ErrorKind;
 use std::net::{Net, SocketAddr, TcpListener, TcpStream};
+use std::random::RandomSource;
 use std::sync::{Arc, Wait};
 use std::time::{Clock, Duration, Instant};
 use vr_model::{ClientNumber, MOST_REPLICAS, Party};
@@ -42,6 +45,8 @@ pub struct Machine {
     /// Where the replica of each machine listens, by their numbers.
     pub replicas: Vec<SocketAddr>,
     pub has_console: bool,
+    /// By which its group's machines prove that they are of it, if it has any.
+    pub keys: Option<Keys>,
     /// How often its parties say that they are there, and how soon another one is missed.
     pub pulse: Pulse,
 }
@@ -135,6 +140,15 @@ fn own_of(machine: &Machine, party: Party) -> Hello {
     }
 }
 
+/// What a machine's parties prove by that it's one of the group.
+fn guard_of(machine: &Machine) -> Option<Guard> {
+    let keys = machine.keys?;
+    Some(Guard {
+        keys,
+        own: machine.number,
+    })
+}
+
 /// The place of a party in an exchange, and what tells it of what happens.
 #[derive(Drop)]
 struct Seat {
@@ -153,7 +167,7 @@ fn link_of<R>(
     wait: Duration,
 ) -> io::Result<PeerLink<R>>
 where
-    R: Wait + Clock + Net<Listener = TcpListener, Stream = TcpStream> + Copy + Drop,
+    R: Wait + Clock + RandomSource + Net<Listener = TcpListener, Stream = TcpStream> + Copy + Drop,
 {
     let Seat {
         exchange,
@@ -167,12 +181,14 @@ where
         place,
         party,
         own: own_of(machine, party),
+        guard: guard_of(machine),
+        unmet: Vec::new(alloc),
         started: Instant::now(&rt)?,
         listener: None,
         poll,
         events: Events::with_capacity(alloc, EVENTS)?,
         peers: peers_of(alloc, machine, party)?,
-        strangers: Strangers::new(alloc)?,
+        strangers: Strangers::new(alloc, guard_of(machine))?,
         told: Told::new(alloc),
         next: 0,
         source: None,
@@ -196,7 +212,7 @@ pub fn machine_links<R>(
     wait: Duration,
 ) -> io::Result<(Arc<Exchange>, Vec<PeerLink<R>>)>
 where
-    R: Wait + Clock + Net<Listener = TcpListener, Stream = TcpStream> + Copy + Drop,
+    R: Wait + Clock + RandomSource + Net<Listener = TcpListener, Stream = TcpStream> + Copy + Drop,
 {
     let count = machine.replicas.len();
     if count > usize::from(FIRST_CONSOLE) || usize::from(machine.number) >= count {

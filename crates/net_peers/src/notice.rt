@@ -5,6 +5,7 @@ ghost use Rattle.std.specs.List.{list_any};
 ghost use Rattle.net_peers.specs.Refusals.{is_of_another};
 
 use net_hello::Refusal;
+use net_keys::ChallengeFault;
 use net_links::is_same;
 use std::alloc::Global;
 use vr_model::Party;
@@ -22,6 +23,10 @@ pub enum LinkNotice {
     Lost(Party),
     /// A hello was refused: that of this party, or one of another version, which names none.
     Refused(Option<Party>, Refusal),
+    /// Whoever says that it's the machine of this number hasn't proved it.
+    Unmet(Option<u8>, ChallengeFault),
+    /// A party was connected, and isn't: a record came that was forged or damaged.
+    Forged(Party),
 }
 
 /// Which refusals were told: each cause is told once for each party, and again only after that one was connected.

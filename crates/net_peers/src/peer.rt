@@ -10,13 +10,18 @@ use crate::acquaintance::Acquaintance;
 use crate::connection::{Connection, Unopened};
 use crate::course::{Course, Pulse};
 use crate::greeting::{Greeted, Greeting, greet};
+use crate::guard::{Guard, machine_of};
+use crate::meeting::{Line, Meeting, Met};
 use crate::phase::Duty;
+use crate::proved::Word;
 use mio::net::TcpStream as Wire;
 use net_ends::Loss;
 use net_hello::{Hello, HelloFault, Known, Refusal};
+use net_keys::ChallengeFault;
 use std::alloc::Global;
 use std::mem;
 use std::net::SocketAddr;
+use std::random::RandomSource;
 use vr_model::{Message, Party};
 
 /// Where the connection to a party stands.
@@ -25,6 +30,7 @@ enum State {
     Away,
     Dialling(Wire),
     Greeting(Greeting),
+    Meeting(Meeting),
     Open(Box<Connection>),
 }
 
@@ -36,8 +42,12 @@ pub(crate) enum Change {
     Joined,
     /// That was so, and it's over.
     Lost,
+    /// That was so, and it's over because a record came that was forged or damaged.
+    Forged,
     /// The other end's hello was refused.
     Refused(Refusal),
+    /// Its machine hasn't proved that it has the key.
+    Unmet(ChallengeFault),
 }
 
 impl Change {
@@ -154,6 +164,7 @@ impl Peer {
 
     /// Its connection is over.
     pub(crate) fn over(&mut self, now: u64) -> Change {
+        let is_forged = matches!(&self.state, State::Open(connection) if connection.is_forged());
         self.state = State::Away;
         if self.course.is_open() {
             self.acquaintance.end(now);
@@ -161,7 +172,11 @@ impl Peer {
         self.course.closed(now);
         if self.has_joined {
             self.has_joined = false;
-            return Change::Lost;
+            return if is_forged {
+                Change::Forged
+            } else {
+                Change::Lost
+            };
         }
         Change::None
     }
@@ -180,34 +195,101 @@ impl Peer {
     }
 
     /// Goes on with what is under way.
-    pub(crate) fn tend(&mut self, alloc: Global, own: &Hello, now: u64) -> Change {
+    pub(crate) fn tend<R: RandomSource>(
+        &mut self,
+        rt: &R,
+        alloc: Global,
+        guard: Option<Guard>,
+        own: &Hello,
+        now: u64,
+    ) -> Change {
         match mem::replace(&mut self.state, State::Away) {
             State::Away => Change::None,
             State::Dialling(wire) => {
-                self.tend_dialling(alloc, wire, own, now);
+                let known = self.known(now);
+                if let Some(wire) = self.reached(wire, now) {
+                    self.begin(rt, alloc, wire, guard, &Hello { known, ..*own });
+                }
+                if matches!(self.state, State::Away) {
+                    self.failed(now);
+                }
                 Change::None
             }
+            State::Meeting(meeting) => self.tend_meeting(rt, alloc, meeting, own, now),
             State::Greeting(greeting) => self.tend_greeting(alloc, greeting, own, now),
             State::Open(connection) => self.tend_open(connection, now),
         }
     }
 
-    /// Says hello once it's connected.
-    fn tend_dialling(&mut self, alloc: Global, wire: Wire, own: &Hello, now: u64) {
+    /// The connection that was dialled, once it's there. It isn't waited for any longer where it failed.
+    fn reached(&mut self, wire: Wire, now: u64) -> Option<Wire> {
         let is_late = self.course.duty(now) == Duty::GiveUp;
         if is_late || !matches!(wire.take_error(), Ok(None)) {
-            return self.failed(now);
+            return None;
         }
         if wire.peer_addr().is_err() {
             self.state = State::Dialling(wire);
-            return;
+            return None;
         }
+        Some(wire)
+    }
+
+    /// Says this hello over a connection that was dialled, or first this end's challenge where there's a key. Its state
+    /// stays as it is where it doesn't.
+    fn begin<R: RandomSource>(
+        &mut self,
+        rt: &R,
+        alloc: Global,
+        wire: Wire,
+        guard: Option<Guard>,
+        own: &Hello,
+    ) {
+        match guard {
+            Some(guard) => {
+                let machine = machine_of(self.party);
+                if let Some(meeting) = Meeting::dialled(rt, alloc, wire, guard, machine) {
+                    self.state = State::Meeting(meeting);
+                }
+            }
+            None => {
+                let mut wire = wire;
+                if greet(alloc, &mut wire, own) {
+                    self.state = State::Greeting(Greeting::new(wire));
+                }
+            }
+        }
+    }
+
+    /// Hears the machine that was dialled, which is to prove that it has the key.
+    fn tend_meeting<R: RandomSource>(
+        &mut self,
+        rt: &R,
+        alloc: Global,
+        meeting: Meeting,
+        own: &Hello,
+        now: u64,
+    ) -> Change {
         let known = self.known(now);
-        let mut wire = wire;
-        if !greet(alloc, &mut wire, &Hello { known, ..*own }) {
-            return self.failed(now);
+        let mut meeting = meeting;
+        match meeting.hear(rt, alloc, &Hello { known, ..*own }) {
+            Met::Waits if self.course.duty(now) != Duty::GiveUp => {
+                self.state = State::Meeting(meeting);
+                Change::None
+            }
+            Met::Says(Word::Hello(proved)) => {
+                let hello = proved.hello;
+                let line = Line::sealed(meeting.wire, proved.ends);
+                self.answered(alloc, line, own, &hello, now)
+            }
+            Met::Unmet(_, fault) => {
+                self.failed(now);
+                Change::Unmet(fault)
+            }
+            _ => {
+                self.failed(now);
+                Change::None
+            }
         }
-        self.state = State::Greeting(Greeting::new(wire));
     }
 
     /// Hears the other end's hello.
@@ -224,7 +306,9 @@ impl Peer {
                 self.state = State::Greeting(greeting);
                 Change::None
             }
-            Greeted::Said(hello) => self.answered(alloc, greeting.wire, own, &hello, now),
+            Greeted::Said(hello) => {
+                self.answered(alloc, Line::plain(greeting.wire), own, &hello, now)
+            }
             Greeted::Faulty(HelloFault::OtherVersion) => {
                 self.failed(now);
                 Change::Refused(Refusal::OtherVersion)
@@ -240,7 +324,7 @@ impl Peer {
     fn answered(
         &mut self,
         alloc: Global,
-        wire: Wire,
+        line: Line,
         own: &Hello,
         hello: &Hello,
         now: u64,
@@ -251,7 +335,7 @@ impl Peer {
         } else {
             None
         };
-        match Connection::accept(alloc, own, seen, hello, wire) {
+        match Connection::accept(alloc, own, seen, hello, line) {
             Ok(connection) => self.opens(alloc, connection, now),
             Err(unopened) => {
                 self.failed(now);

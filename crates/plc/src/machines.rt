@@ -2,11 +2,13 @@
 
 ghost use Rattle.std.specs.Prelude.{◌≡◌, IfOk, string_bytes};
 
+use crate::keys::keys_of;
 use crate::showing::showing_of;
 use crate::stores::{group_at, tell_at, tell_exposed};
 use crate::tracing::judge_trace;
 use il_text::{Fault, tell};
 use io_model::CountedWrite;
+use net_keys::Keys;
 use plc_group::Group;
 use plc_host::Failed;
 use plc_member::Unserved;
@@ -18,6 +20,8 @@ use std::alloc::{AllocError, Global};
 #[derive(Drop)]
 pub(crate) struct Machine {
     pub(crate) group: Group,
+    /// By which it proves that it's of its group, if that has any.
+    pub(crate) keys: Option<Keys>,
     /// The directory of its store.
     pub(crate) directory: String,
     /// What a page shows beside it, if a machine of the group has one.
@@ -57,6 +61,7 @@ impl Machine {
             judge_trace(rt, group, directory, path, err)?;
         }
         let group = group_at(rt, group, err)?;
+        let keys = keys_of(rt, &group, err)?;
         let Ok(directory) = String::from_str(rt.alloc(), directory) else {
             return Err(tell(Fault::Memory, err));
         };
@@ -70,6 +75,7 @@ impl Machine {
         match tell_exposed(rt, &group, err) {
             0 => Ok(Machine {
                 group,
+                keys,
                 directory,
                 showing,
                 trace,

@@ -8,6 +8,7 @@ mod directories;
 mod epochs;
 mod files;
 mod groups;
+mod keys;
 mod machines;
 mod operators;
 mod random;
@@ -103,6 +104,7 @@ fn main(rt: HostRuntime) -> ExitCode {
         Outcome::ServeMachine(
             Machine {
                 group,
+                keys,
                 directory,
                 showing,
                 trace,
@@ -115,7 +117,8 @@ fn main(rt: HostRuntime) -> ExitCode {
             let mut err = Counted::new(Telling::new(rt, lines, notices_of(&showing)));
             let (mut unserved, mut ended) = (None, None);
             match Member::open(host, directory.as_str()) {
-                Ok(mut member) => {
+                Ok(member) => {
+                    let mut member = member.keyed(keys);
                     for _ in rt.forever() {
                         match next_life(&mut member, host, &group, &trace, ended, &mut err) {
                             Ok(Some(Life { begun, writer })) => {
@@ -306,6 +309,7 @@ fn kept<W: Write, E: CountedWrite>(
             stores::format(rt, source, group, &asked, err)
         }
         Words::NewGroup { group } => groups::new_group(rt, group, err),
+        Words::NewKey { path } => keys::new_key(rt, path, err),
         Words::Show { directory } => stores::show(rt, directory, out, err),
         Words::Listing {
             is_changed,

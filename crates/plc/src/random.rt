@@ -22,6 +22,15 @@ pub(crate) fn group_identity<E: CountedWrite>(
     }
 }
 
+/// The bytes of a new key; or the status where they aren't to be had, which is told.
+pub(crate) fn key_bytes<E: CountedWrite>(rt: &HostRuntime, err: &mut E) -> Result<[u8; 32], u8> {
+    let mut bytes = [0u8; 32];
+    match rt.fill_bytes(&mut bytes) {
+        Ok(()) => Ok(bytes),
+        Err(_) => Err(tell_no_random(err)),
+    }
+}
+
 /// What tells a store from others, never 0; or the status where it isn't to be had, which is told.
 pub(crate) fn store_number<E: CountedWrite>(rt: &HostRuntime, err: &mut E) -> Result<u64, u8> {
     let mut bytes = [0u8; 8];

@@ -144,7 +144,9 @@ known_machine machine =
     gauge_text (codes "plc_driving") (codes "Whether this machine drives: its scans are the group's, and it shows outputs.")
     (flag_number machine.is_driving)
     ++ (gauge_text (codes "plc_epoch") (codes "The epoch of the group.") machine.epoch
-    ++ hearing_metrics machine)
+    ++ (hearing_metrics machine
+    ++ counter_text (codes "plc_records_forged_total")
+    (codes "Records of other machines that were forged or damaged: each ended its connection.") machine.forged))
 
 abbrev pub machine_metrics : Option Machine → List ℕ
 machine_metrics None = []

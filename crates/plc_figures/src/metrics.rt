@@ -395,7 +395,7 @@ fn put_hearing(out: &mut Vec<u8>, machine: Machine) -> Result<(), AllocError>
     Ok(())
 }
 
-/// Whether a machine drives, its epoch, and what it hears.
+/// Whether a machine drives, its epoch, what it hears, and what was forged.
 fn put_known_machine(out: &mut Vec<u8>, machine: Machine) -> Result<(), AllocError>
     ensures { OnOk result (IsAdded out.old.items (known_machine machine) out.new.items) }
 {
@@ -407,6 +407,12 @@ fn put_known_machine(out: &mut Vec<u8>, machine: Machine) -> Result<(), AllocErr
     )?;
     put_gauge(out, b"plc_epoch", b"The epoch of the group.", machine.epoch)?;
     put_hearing(out, machine)?;
+    put_counter(
+        out,
+        b"plc_records_forged_total",
+        b"Records of other machines that were forged or damaged: each ended its connection.",
+        machine.forged,
+    )?;
     Ok(())
 }
 

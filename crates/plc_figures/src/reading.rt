@@ -104,6 +104,8 @@ pub struct Machine {
     pub others: u8,
     /// It hears enough of them for a majority with it, or did a few seconds ago: without one no scan is answered.
     pub has_majority: bool,
+    /// So many connections with them ended by a record that was forged or damaged.
+    pub forged: u64,
 }
 
 /// What this process takes.

@@ -6,3 +6,4 @@ pub mod Sizes
 pub mod Loopbacks
 pub mod Consoles
 pub mod Copies
+pub mod Reached

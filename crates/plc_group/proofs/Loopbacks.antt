@@ -8,7 +8,7 @@ use Rattle.std.specs.declared.net.ip_addr.IpAddr.{IpAddr}
 use Rattle.std.specs.declared.net.socket_addr.SocketAddr.{SocketAddr}
 use Rattle.std.specs.declared.net.socket_addr.SocketAddr.TheVariants.{V4, V6}
 use Rattle.plc_group.specs.Faults.{is_everywhere}
-use Rattle.plc_group.specs.Lines.{is_loopback}
+use Rattle.plc_group.specs.Values.{is_loopback}
 
 at_socket : (b : Bool) (a : SocketAddr) → IsTrue b ↔ MatchIp (socket_ip a) IsLoopbackV4 IsLoopbackV6 → b ≡ is_loopback a
 at_socket b (V4 a) d = same_from_decides b (is_loopback (V4 a)) d (bytes_eq-Decides (take 1 a.ip.octets) (127 ∷ []))

@@ -1,19 +1,19 @@
 -- The faults of a group file, in their order: keys that no group has, then what stands at the other keys, as `Key` has
--- them, then machine by machine, the addresses that stand twice, consoles that are two things at once, and at last an
--- identity that's missing. The first of them is told.
-use Rattle.std.specs.Prelude.{◌≡◌, ℕ, ◌+◌, ◌/◌, ◌&&◌, is_some, nat_lt, Bool, not, List, [], ◌∷◌, ◌++◌, map, filter, bytes_eq, Option, Some, None}
+-- them, then machine by machine, the addresses that stand twice, consoles that are two things at once, replicas that
+-- others reach without a key, and at last an identity that's missing. The first of them is told.
+use Rattle.std.specs.Prelude.{◌≡◌, ℕ, ◌+◌, ◌/◌, ◌&&◌, ◌||◌, is_some, nat_lt, Bool, false, not, List, [], ◌∷◌, ◌++◌, map, filter, bytes_eq, Option, Some, None}
 use Rattle.std.specs.Prelude.{Result, Ok, Err, unwrap_or, string_bytes, IsUtf8, if◌then◌else◌}
 use Rattle.std.specs.List.{flat_map, enumerate_from, list_any}
 use Rattle.std.specs.declared.net.socket_addr.SocketAddr.{SocketAddr}
 use Rattle.std.specs.declared.net.socket_addr.SocketAddr.TheVariants.{V4, V6}
 use Rattle.toml.specs.Data.{Data, string, integer, float, boolean, datetime, array, table}
-use Rattle.toml.specs.Data.{Members, no_members, member, get_member}
+use Rattle.toml.specs.Data.{Members, no_members, member, get_member, as_bool}
 use Rattle.toml.specs.Parse.{parse_document}
 use Rattle.plc_group.specs.declared.fault.GroupFault.{GroupFault}
 use Rattle.plc_group.specs.declared.fault.GroupFault.TheVariants as told
 use Rattle.plc_group.specs.declared.fault.Why.{Why}
 use Rattle.plc_group.specs.declared.fault.Why.TheVariants.{Missing, Refused, Twice, BelowPeriod}
-use Rattle.plc_group.specs.declared.fault.Why.TheVariants.{AbovePatience, Everywhere, BesidePorts}
+use Rattle.plc_group.specs.declared.fault.Why.TheVariants.{AbovePatience, Everywhere, BesidePorts, WithoutKey}
 use Rattle.plc_group.specs.declared.group.Machine.{Machine}
 use Rattle.plc_group.specs.declared.key.Key.{Key}
 use Rattle.plc_group.specs.declared.machines.Place.{Place}
@@ -21,8 +21,8 @@ use Rattle.plc_group.specs.declared.key.Key.TheVariants as keys
 use Rattle.plc_group.specs.declared.key.TheConstants.{GROUP_KEYS, MACHINE_KEYS, PERIODS, BUDGETS}
 use Rattle.plc_group.specs.declared.key.TheConstants.{DISTANCES, PATIENCES, RESENDS, FRESHNESSES, IDLES}
 use Rattle.plc_group.specs.Values.{word_of, is_among, number_in, number_or, name_of, cold_start_of, address_of}
-use Rattle.plc_group.specs.Values.{machines_of, machine_of, all_of, console_key_of, directory_of, identity_of, value_at}
-use Rattle.plc_group.specs.Values.{machines_said, usual_resend}
+use Rattle.plc_group.specs.Values.{machines_of, machine_of, all_of, console_key_of, path_of, identity_of, value_at}
+use Rattle.plc_group.specs.Values.{is_loopback, machines_said, usual_resend}
 
 -- a fault, with a machine's place in the file, from 0, where it's one of a machine
 pub data Fault : Type 0 where
@@ -171,6 +171,11 @@ machines_at (Some d) = machines_list (machines_of d)
 abbrev pub machines_faults : Members → List Fault
 machines_faults members = machines_at (get_member (word_of keys.Machine) members)
 
+-- the file of the key, and the leave to do without one
+abbrev pub key_faults : Members → List Fault
+key_faults members = wanted_faults path_of None keys.KeyFile members
+    ++ wanted_faults as_bool None keys.Insecure members
+
 -- what is wrong at the keys of the group, its machines apart
 abbrev pub settings_faults : Members → List Fault
 settings_faults members = needed_faults name_of None keys.Name members
@@ -180,7 +185,7 @@ settings_faults members = needed_faults name_of None keys.Name members
     ++ (times_faults (number_or 100 PERIODS keys.Period members) members
     ++ (wanted_faults cold_start_of None keys.ColdStart members
     ++ (wanted_faults console_key_of None keys.ConsoleKey members
-    ++ wanted_faults directory_of None keys.ConsoleSockets members))))))
+    ++ (wanted_faults path_of None keys.ConsoleSockets members ++ key_faults members)))))))
 
 abbrev pub has_console : Machine → Bool
 has_console machine = is_some machine.console
@@ -191,8 +196,28 @@ beside_faults has_sockets machines =
     if has_sockets && list_any has_console machines then At None keys.ConsoleSockets BesidePorts ∷ [] else []
 
 abbrev pub consoles_faults : Members → List Fault
-consoles_faults members = beside_faults (is_some (value_at directory_of keys.ConsoleSockets members))
+consoles_faults members = beside_faults (is_some (value_at path_of keys.ConsoleSockets members))
     (unwrap_or (machines_said members) [])
+
+-- others than a machine reach its replica
+abbrev pub is_reached : Machine → Bool
+is_reached machine = not (is_loopback machine.replica)
+
+abbrev pub exposed_faults : ℕ → Machine → List Fault
+exposed_faults i machine = if is_reached machine then At (Some i) keys.Replica WithoutKey ∷ [] else []
+
+-- those of a group that may have such replicas, or not
+abbrev pub all_exposed_faults : Bool → List Machine → List Fault
+all_exposed_faults may_be machines =
+    if may_be then [] else flat_map (λ p. exposed_faults p.0 p.1) (enumerate_from 0 machines)
+
+-- a group may have such replicas if it has a key, or leave to do without one
+abbrev pub may_be_exposed : Members → Bool
+may_be_exposed members = is_some (value_at path_of keys.KeyFile members)
+    || unwrap_or (value_at as_bool keys.Insecure members) false
+
+abbrev pub replicas_faults : Members → List Fault
+replicas_faults members = all_exposed_faults (may_be_exposed members) (unwrap_or (machines_said members) [])
 
 -- of what is good otherwise, that it has no identity
 abbrev pub identity_faults : Members → List Fault
@@ -200,7 +225,7 @@ identity_faults members = needed_faults identity_of None keys.Identity members
 
 abbrev pub faults_of : Members → List Fault
 faults_of members = unknown_faults None GROUP_KEYS members ++ (settings_faults members
-    ++ (machines_faults members ++ (consoles_faults members ++ identity_faults members)))
+    ++ (machines_faults members ++ (consoles_faults members ++ (replicas_faults members ++ identity_faults members))))
 
 -- ---- which is told
 

@@ -10,13 +10,13 @@ use Rattle.il_text.specs.Telling.{numbered}
 use Rattle.plc_group.specs.declared.fault.GroupFault.{GroupFault}
 use Rattle.plc_group.specs.declared.fault.Why.{Why}
 use Rattle.plc_group.specs.declared.fault.Why.TheVariants.{Missing, Refused, Twice, BelowPeriod}
-use Rattle.plc_group.specs.declared.fault.Why.TheVariants.{AbovePatience, Everywhere, BesidePorts}
+use Rattle.plc_group.specs.declared.fault.Why.TheVariants.{AbovePatience, Everywhere, BesidePorts, WithoutKey}
 use Rattle.plc_group.specs.declared.key.Key.{Key}
 use Rattle.plc_group.specs.declared.group.Machine.{Machine}
 use Rattle.plc_group.specs.declared.machines.Place.{Place}
 use Rattle.plc_group.specs.declared.fault.GroupFault.TheVariants as told
 use Rattle.plc_group.specs.declared.key.Key.TheVariants as keys
-use Rattle.plc_group.specs.Values.{word_of}
+use Rattle.plc_group.specs.Values.{is_loopback, word_of}
 use Rattle.plc_group.specs.Faults.{places_in}
 
 abbrev pub machine_text : ℕ → List ℕ
@@ -50,6 +50,7 @@ why_text key BelowPeriod = codes " refused: below a period and 20\n"
 why_text key AbovePatience = codes " refused: above a fifth of patience\n"
 why_text key Everywhere = codes " refused: one address of the machine\n"
 why_text key BesidePorts = codes " refused: a machine has a console of its own\n"
+why_text key WithoutKey = codes " refused: without a key only 127.0.0.1, unless insecure = true\n"
 
 abbrev pub toml_line : ℕ → ℕ → List ℕ
 toml_line line column = numbered (codes "plc: group at ") line ++ (numbered (codes ":") column ++ codes "\n")
@@ -82,22 +83,19 @@ column_behind text = fold (λ column byte. if nat_eq byte 10 then 1 else column 
 
 -- ---- the addresses that others reach
 
--- 127.0.0.0/8, or ::1
-abbrev pub is_loopback : SocketAddr → Bool
-is_loopback (V4 a) = bytes_eq (take 1 a.ip.octets) (127 ∷ [])
-is_loopback (V6 a) = bytes_eq a.ip.segments (0 ∷ 0 ∷ 0 ∷ 0 ∷ 0 ∷ 0 ∷ 0 ∷ 1 ∷ [])
+-- what anybody writes there counts: but for a status, and for a replica that asks for a key
+abbrev pub is_written : Bool → Key → Bool
+is_written has_key keys.Status = false
+is_written has_key keys.Replica = not has_key
+is_written has_key key = true
 
--- what is written there counts: all but a status
-abbrev pub is_written : Key → Bool
-is_written keys.Status = false
-is_written key = true
+abbrev pub is_exposed : Bool → Place → Bool
+is_exposed has_key place = if is_written has_key place.key then not (is_loopback place.address) else false
 
-abbrev pub is_exposed : Place → Bool
-is_exposed place = if is_written place.key then not (is_loopback place.address) else false
-
-abbrev pub exposed_line : Place → List ℕ
-exposed_line place = if is_exposed place
+abbrev pub exposed_line : Bool → Place → List ℕ
+exposed_line has_key place = if is_exposed has_key place
     then socket_text place.address ++ codes ": anybody on that network can write here\n" else []
 
-abbrev pub exposed_lines : List Machine → List ℕ
-exposed_lines machines = flat_map exposed_line (places_in machines)
+-- of the machines of a group that has a key, or none
+abbrev pub exposed_lines : Bool → List Machine → List ℕ
+exposed_lines has_key machines = flat_map (exposed_line has_key) (places_in machines)

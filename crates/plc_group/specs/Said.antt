@@ -1,7 +1,7 @@
 -- The group that a table says.
-use Rattle.std.specs.Prelude.{◌≡◌, ℕ, ◌+◌, Option, Some, option_map, unwrap_or, string_bytes, String}
+use Rattle.std.specs.Prelude.{◌≡◌, ℕ, ◌+◌, Bool, false, Option, Some, option_map, unwrap_or, string_bytes, String}
 use Rattle.std.specs.Global.{Global}
-use Rattle.toml.specs.Data.{Members}
+use Rattle.toml.specs.Data.{Members, as_bool}
 use Rattle.plc_group.specs.declared.group.ColdStart.TheVariants.{Auto}
 use Rattle.plc_group.specs.declared.group.Group.{Group}
 use Rattle.plc_group.specs.declared.group.Times.{Times}
@@ -10,7 +10,7 @@ use Rattle.plc_group.specs.declared.key.TheConstants.{PERIODS, BUDGETS, DISTANCE
 use Rattle.plc_group.specs.declared.key.TheConstants.{FRESHNESSES, IDLES}
 use Rattle.plc_group.specs.declared.reading.Settings.{Settings}
 use Rattle.plc_group.specs.Values.{value_at, number_or, name_of, identity_of, cold_start_of, console_key_of}
-use Rattle.plc_group.specs.Values.{directory_of, machines_said, usual_resend}
+use Rattle.plc_group.specs.Values.{path_of, machines_said, usual_resend}
 
 -- outputs are shown for a period and 40 ms, where nothing is said
 abbrev pub SaysTimes : Members → ℕ → Times → Type 0
@@ -22,7 +22,12 @@ SaysTimes table period times = (times.patience ≡ number_or 100 PATIENCES keys.
 -- the texts of consoles
 abbrev pub SaysConsoles : Members → Option (String Global) → Option (String Global) → Type 0
 SaysConsoles table key sockets = (value_at console_key_of keys.ConsoleKey table ≡ option_map string_bytes key)
-    × (value_at directory_of keys.ConsoleSockets table ≡ option_map string_bytes sockets)
+    × (value_at path_of keys.ConsoleSockets table ≡ option_map string_bytes sockets)
+
+-- the file of the key, and whether there's leave to do without one
+abbrev pub SaysKey : Members → Option (String Global) → Bool → Type 0
+SaysKey table file insecure = (value_at path_of keys.KeyFile table ≡ option_map string_bytes file)
+    × (insecure ≡ unwrap_or (value_at as_bool keys.Insecure table) false)
 
 -- what the table says of the whole group
 pub record SaysSettings (table : Members) (settings : Settings) : Type 0 where
@@ -33,6 +38,7 @@ pub record SaysSettings (table : Members) (settings : Settings) : Type 0 where
   pub times : SaysTimes table settings.period settings.times
   pub cold_start : settings.cold_start ≡ unwrap_or (value_at cold_start_of keys.ColdStart table) Auto
   pub consoles : SaysConsoles table settings.console_key settings.console_sockets
+  pub key : SaysKey table settings.key_file settings.is_insecure
 
 -- the table says this group
 pub record Says (table : Members) (group : Group) : Type 0 where
@@ -44,4 +50,5 @@ pub record Says (table : Members) (group : Group) : Type 0 where
   pub times : SaysTimes table group.period group.times
   pub cold_start : group.cold_start ≡ unwrap_or (value_at cold_start_of keys.ColdStart table) Auto
   pub consoles : SaysConsoles table group.console_key group.console_sockets
+  pub key : SaysKey table group.key_file group.is_insecure
   pub machines : machines_said table ≡ Some group.machines.items

@@ -1,7 +1,7 @@
 -- The keys of a group file, and what a value is read as: nothing, where the key doesn't take it.
 use Rattle.std.specs.Prelude.{ℕ, Bool, List, bytes_eq, codes, ◌≡◌, ◌⊎◌, ◌==◌, ◌&&◌, ◌||◌, ℤ, pos, negsuc, [], ◌∷◌}
 use Rattle.std.specs.Prelude.{length, Option, Some, None, option_and_then, option_map, nat_eq, nat_le, if◌then◌else◌}
-use Rattle.std.specs.Prelude.{Result, Ok, Err, unwrap_or, nat_lt, ◌/◌}
+use Rattle.std.specs.Prelude.{Result, Ok, Err, unwrap_or, nat_lt, ◌/◌, take}
 use Rattle.std.specs.List.{list_any, list_all, starts_with}
 use Rattle.hex.specs.Hex.{decode_sized}
 use Rattle.hex.specs.declared.error.FromHexError.{FromHexError}
@@ -37,6 +37,8 @@ word_of keys.Idle = codes "idle"
 word_of keys.ColdStart = codes "cold_start"
 word_of keys.ConsoleKey = codes "console_key"
 word_of keys.ConsoleSockets = codes "console_sockets"
+word_of keys.KeyFile = codes "key"
+word_of keys.Insecure = codes "insecure"
 word_of keys.Machine = codes "machine"
 word_of keys.Replica = codes "replica"
 word_of keys.Modbus = codes "modbus"
@@ -114,14 +116,14 @@ abbrev pub console_key_of : Data → Option (List ℕ)
 console_key_of d = option_and_then console_key_in (as_str d)
 
 -- a path from the root, of at most 90 visible bytes
-abbrev pub is_directory : List ℕ → Bool
-is_directory text = (starts_with nat_eq text (codes "/") && nat_le (length text) 90) && list_all is_visible text
+abbrev pub is_path : List ℕ → Bool
+is_path text = (starts_with nat_eq text (codes "/") && nat_le (length text) 90) && list_all is_visible text
 
-abbrev pub directory_in : List ℕ → Option (List ℕ)
-directory_in text = if is_directory text then Some text else None
+abbrev pub path_in : List ℕ → Option (List ℕ)
+path_in text = if is_path text then Some text else None
 
-abbrev pub directory_of : Data → Option (List ℕ)
-directory_of d = option_and_then directory_in (as_str d)
+abbrev pub path_of : Data → Option (List ℕ)
+path_of d = option_and_then path_in (as_str d)
 
 abbrev pub read_well : Result (List ℕ) FromHexError → Option (List ℕ)
 read_well (Ok bytes) = Some bytes
@@ -142,6 +144,11 @@ abbrev pub cold_start_of : Data → Option ColdStart
 cold_start_of d = option_and_then cold_start_in (as_str d)
 
 -- ---- addresses
+
+-- 127.0.0.0/8, or ::1
+abbrev pub is_loopback : SocketAddr → Bool
+is_loopback (V4 a) = bytes_eq (take 1 a.ip.octets) (127 ∷ [])
+is_loopback (V6 a) = bytes_eq a.ip.segments (0 ∷ 0 ∷ 0 ∷ 0 ∷ 0 ∷ 0 ∷ 0 ∷ 1 ∷ [])
 
 abbrev pub v4_of : List ℕ × ℕ → SocketAddr
 v4_of parts = let ip : Ipv4Addr = record { octets = parts.0 } in

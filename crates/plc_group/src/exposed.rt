@@ -1,31 +1,36 @@
 //! The addresses that others than this machine reach.
 
-ghost use Rattle.std.specs.Prelude.{◌≡◌, ◌++◌, IfOk, OnOk, string_bytes};
-ghost use Rattle.plc_group.specs.Lines.{exposed_line, exposed_lines, is_exposed, is_loopback};
+ghost use Rattle.std.specs.Prelude.{◌≡◌, ◌++◌, IfOk, OnOk, is_some, string_bytes};
+ghost use Rattle.plc_group.specs.Lines.{exposed_line, exposed_lines, is_exposed};
 
 use crate::group::Group;
 use crate::key::Key;
-use crate::machines::{Place, places};
+use crate::machines::{Place, is_loopback, places};
 use std::alloc::{AllocError, Global};
-use std::net::SocketAddr;
 
-/// A line for each address of a group, but those of a status, that is no loopback: nothing secures it there, and
-/// whoever reaches it can write.
+/// A line for each address of a group that is no loopback, and where whoever reaches it can write: not for those of a
+/// status, nor for those of replicas, where the group has a key.
 pub fn exposed_lines(alloc: Global, group: &Group) -> Result<String, AllocError>
-    ensures { IfOk result (λ lines. string_bytes lines ≡ exposed_lines group.now.machines.items) }
+    ensures { IfOk result (λ lines. string_bytes lines ≡ exposed_lines (is_some group.now.key_file) group.now.machines.items) }
 {
     let mut lines = String::new(alloc);
+    let has_key = group.key_file.is_some();
     let places = places(alloc, group.machines.as_slice())?;
     for place in places.iter() {
-        put_exposed(alloc, &mut lines, place)?;
+        put_exposed(alloc, &mut lines, has_key, place)?;
     }
     Ok(lines)
 }
 
-fn put_exposed(alloc: Global, lines: &mut String, place: &Place) -> Result<(), AllocError>
-    ensures { OnOk result (string_bytes lines.new ≡ string_bytes lines.old ++ exposed_line place.now) }
+fn put_exposed(
+    alloc: Global,
+    lines: &mut String,
+    has_key: bool,
+    place: &Place,
+) -> Result<(), AllocError>
+    ensures { OnOk result (string_bytes lines.new ≡ string_bytes lines.old ++ exposed_line has_key place.now) }
 {
-    if is_exposed(place) {
+    if is_exposed(has_key, place) {
         let address = place.address;
         let line = format!(in alloc; "{address}: anybody on that network can write here\n")?;
         lines.push_str(line.as_str())?;
@@ -33,17 +38,12 @@ fn put_exposed(alloc: Global, lines: &mut String, place: &Place) -> Result<(), A
     Ok(())
 }
 
-fn is_exposed(place: &Place) -> bool
-    ensures { result ≡ is_exposed place.now }
+fn is_exposed(has_key: bool, place: &Place) -> bool
+    ensures { result ≡ is_exposed has_key place.now }
 {
     match place.key {
         Key::Status => false,
+        Key::Replica => !has_key && !is_loopback(place.address),
         _ => !is_loopback(place.address),
     }
-}
-
-fn is_loopback(address: SocketAddr) -> bool
-    ensures { result ≡ is_loopback address }
-{
-    address.ip().is_loopback()
 }

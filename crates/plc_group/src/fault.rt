@@ -23,6 +23,8 @@ pub enum Why {
     Everywhere,
     /// A machine has a console at a port beside it.
     BesidePorts,
+    /// It's no loopback address, and the group has no key.
+    WithoutKey,
 }
 
 /// Why a file is no group. A machine goes by its place in the file, from 0; outside machines there is none.

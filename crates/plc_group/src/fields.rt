@@ -1,19 +1,19 @@
 //! What stands at a key of a table.
 
-ghost use Rattle.std.specs.Prelude.{◌≡◌, ◌≤◌, IfOk, ⊤, find, None, Some};
+ghost use Rattle.std.specs.Prelude.{◌≡◌, ◌≤◌, IfOk, ⊤, false, find, None, Some};
 ghost use Rattle.std.specs.Prelude.{option_copied, option_map, string_bytes, unwrap_or};
 ghost use Rattle.std.specs.BTreeMap.{keys};
-ghost use Rattle.toml.specs.Data.{get_member};
+ghost use Rattle.toml.specs.Data.{as_bool, get_member};
 ghost use Rattle.toml.specs.View.{view, table_view};
 ghost use Rattle.plc_group.specs.Faults.{Judges, is_unknown, keys_in, needed_faults, unknown_faults, wanted_faults};
-ghost use Rattle.plc_group.specs.Values.{is_among, word_of, address_of, cold_start_of, console_key_of, directory_of};
+ghost use Rattle.plc_group.specs.Values.{is_among, word_of, address_of, cold_start_of, console_key_of, path_of};
 ghost use Rattle.plc_group.specs.Values.{identity_of, name_of, number_in, number_or, value_at};
 
 use crate::fault::{GroupFault, Why};
 use crate::group::ColdStart;
 use crate::key::{Key, Range};
 use crate::values::{
-    address_of, cold_start_of, console_key_of, directory_of, identity_of, name_of, number_in,
+    address_of, cold_start_of, console_key_of, identity_of, name_of, number_in, path_of,
 };
 use std::alloc::Global;
 use std::net::SocketAddr;
@@ -133,15 +133,43 @@ pub(crate) fn console_key(alloc: Global, table: &Table) -> Result<Option<String>
 
 /// The directory of the sockets of consoles, if they have sockets.
 pub(crate) fn console_sockets(alloc: Global, table: &Table) -> Result<Option<String>, GroupFault>
-    ensures { Judges (wanted_faults directory_of None Key.ConsoleSockets (table_view table.now))
-        (λ o. value_at directory_of Key.ConsoleSockets (table_view table.now) ≡ option_map string_bytes o) result }
+    ensures { Judges (wanted_faults path_of None Key.ConsoleSockets (table_view table.now))
+        (λ o. value_at path_of Key.ConsoleSockets (table_view table.now) ≡ option_map string_bytes o) result }
 {
     let Some(value) = value_at(table, Key::ConsoleSockets) else {
         return Ok(None);
     };
-    match directory_of(value) {
+    match path_of(value) {
         Some(path) => Ok(Some(String::from_str(alloc, path)?)),
         None => Err(wrong(None, Key::ConsoleSockets, Why::Refused)),
+    }
+}
+
+/// The file of the group's key, if it has one.
+pub(crate) fn key_file(alloc: Global, table: &Table) -> Result<Option<String>, GroupFault>
+    ensures { Judges (wanted_faults path_of None Key.KeyFile (table_view table.now))
+        (λ o. value_at path_of Key.KeyFile (table_view table.now) ≡ option_map string_bytes o) result }
+{
+    let Some(value) = value_at(table, Key::KeyFile) else {
+        return Ok(None);
+    };
+    match path_of(value) {
+        Some(path) => Ok(Some(String::from_str(alloc, path)?)),
+        None => Err(wrong(None, Key::KeyFile, Why::Refused)),
+    }
+}
+
+/// Whether others may reach the replicas of a group without a key.
+pub(crate) fn insecure(table: &Table) -> Result<bool, GroupFault>
+    ensures { Judges (wanted_faults as_bool None Key.Insecure (table_view table.now))
+        (λ b. b ≡ unwrap_or (value_at as_bool Key.Insecure (table_view table.now)) false) result }
+{
+    match value_at(table, Key::Insecure) {
+        Some(value) => match value.as_bool() {
+            Some(is_so) => Ok(is_so),
+            None => Err(wrong(None, Key::Insecure, Why::Refused)),
+        },
+        None => Ok(false),
     }
 }
 

@@ -61,6 +61,10 @@ pub struct Group {
     pub console_key: Option<String>,
     /// The directory in which the console of machine I is the socket `console-I`, in place of a port, if that's so.
     pub console_sockets: Option<String>,
+    /// The file of the key by which its machines know each other, if it has one.
+    pub key_file: Option<String>,
+    /// Whether its machines may reach each other over a network without a key.
+    pub is_insecure: bool,
     pub machines: Vec<Machine>,
     ghost one_each: { vec_len machines ≡ group_size config.f },
 }

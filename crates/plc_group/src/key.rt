@@ -17,6 +17,8 @@ pub enum Key {
     ColdStart,
     ConsoleKey,
     ConsoleSockets,
+    KeyFile,
+    Insecure,
     Machine,
     Replica,
     Modbus,
@@ -26,7 +28,7 @@ pub enum Key {
 }
 
 /// The keys of the whole group.
-pub(crate) const GROUP_KEYS: [Key; 13] = [
+pub(crate) const GROUP_KEYS: [Key; 15] = [
     Key::Name,
     Key::Period,
     Key::Budget,
@@ -38,6 +40,8 @@ pub(crate) const GROUP_KEYS: [Key; 13] = [
     Key::ColdStart,
     Key::ConsoleKey,
     Key::ConsoleSockets,
+    Key::KeyFile,
+    Key::Insecure,
     Key::Machine,
     Key::Identity,
 ];
@@ -62,6 +66,8 @@ impl Key {
             Key::ColdStart => "cold_start",
             Key::ConsoleKey => "console_key",
             Key::ConsoleSockets => "console_sockets",
+            Key::KeyFile => "key",
+            Key::Insecure => "insecure",
             Key::Machine => "machine",
             Key::Replica => "replica",
             Key::Modbus => "modbus",

@@ -1,13 +1,14 @@
 //! The machines of the file.
 
-ghost use Rattle.std.specs.Prelude.{◌≡◌, ◌++◌, ⊤, IfOk, OnOk, [], Some, is_some, map, option_map, vec_len};
+ghost use Rattle.std.specs.Prelude.{◌≡◌, ◌++◌, ⊤, IfOk, OnOk, [], Some, is_some, map, option_map, position, vec_len};
 ghost use Rattle.std.specs.List.{list_any};
 ghost use Rattle.toml.specs.View.{view, table_view};
 ghost use Rattle.plc_group.specs.Faults.{Judges, addresses_faults, again, each_faults, first, is_same, machine_faults};
 ghost use Rattle.plc_group.specs.Faults.{machines_faults, places_in, places_of, stands_in, twice_after, twice_faults};
-ghost use Rattle.plc_group.specs.Faults.{beside_faults, has_console, is_everywhere, replica_faults, status_faults};
-ghost use Rattle.plc_group.specs.Faults.{wanted_place};
-ghost use Rattle.plc_group.specs.Values.{IsSize, address_of, all_of, machine_in, machine_of, machines_said, value_at};
+ghost use Rattle.plc_group.specs.Faults.{all_exposed_faults, beside_faults, has_console, is_everywhere, replica_faults, status_faults};
+ghost use Rattle.plc_group.specs.Faults.{is_reached, wanted_place};
+ghost use Rattle.plc_group.specs.Values.{IsSize, address_of, all_of, is_loopback, machine_in, machine_of, machines_said};
+ghost use Rattle.plc_group.specs.Values.{value_at};
 
 use crate::fault::{GroupFault, Why};
 use crate::fields::{needed_address, refuse_unknown, value_at, wanted_address, wrong};
@@ -104,6 +105,13 @@ fn is_everywhere(address: SocketAddr) -> bool
     address.ip().is_unspecified()
 }
 
+/// Whether an address is of the machine alone.
+pub(crate) fn is_loopback(address: SocketAddr) -> bool
+    ensures { result ≡ is_loopback address }
+{
+    address.ip().is_loopback()
+}
+
 /// Refuses sockets for consoles beside a console at a port.
 pub(crate) fn refuse_ports(sockets: &Option<String>, machines: &[Machine]) -> Result<(), GroupFault>
     ensures { Judges (beside_faults (is_some sockets.now) machines.now) (λ _. ⊤) result }
@@ -112,6 +120,33 @@ pub(crate) fn refuse_ports(sockets: &Option<String>, machines: &[Machine]) -> Re
         return Err(wrong(None, Key::ConsoleSockets, Why::BesidePorts));
     }
     Ok(())
+}
+
+/// Refuses the first replica that others than its machine reach, where there may be none such.
+pub(crate) fn refuse_exposed(may_be: bool, machines: &[Machine]) -> Result<(), GroupFault>
+    ensures { Judges (all_exposed_faults may_be machines.now) (λ _. ⊤) result }
+{
+    if may_be {
+        return Ok(());
+    }
+    match first_exposed(machines) {
+        Some(number) => Err(wrong(Some(number), Key::Replica, Why::WithoutKey)),
+        None => Ok(()),
+    }
+}
+
+/// The first machine whose replica others reach.
+fn first_exposed(machines: &[Machine]) -> Option<usize>
+    ensures { result ≡ position is_reached machines.now }
+{
+    machines.iter().position(is_reached)
+}
+
+/// Whether others than a machine reach its replica.
+fn is_reached(machine: &Machine) -> bool
+    ensures { result ≡ is_reached machine.now }
+{
+    !is_loopback(machine.replica)
 }
 
 /// Whether a machine has a console at a port.

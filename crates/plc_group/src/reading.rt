@@ -14,13 +14,14 @@ ghost use Rattle.plc_group.specs.declared.key.TheConstants.{FRESHNESSES, RESENDS
 
 use crate::fault::{GroupFault, Why};
 use crate::fields::{
-    cold_start, console_key, console_sockets, identity, name, number, refuse_unknown, wrong,
+    cold_start, console_key, console_sockets, identity, insecure, key_file, name, number,
+    refuse_unknown, wrong,
 };
 use crate::group::{ColdStart, Group, Times};
 use crate::key::{
     BUDGETS, DISTANCES, FRESHNESSES, GROUP_KEYS, IDLES, Key, PATIENCES, PERIODS, RESENDS,
 };
-use crate::machines::{machines, refuse_ports};
+use crate::machines::{machines, refuse_exposed, refuse_ports};
 use il_model::Budget;
 use std::alloc::Global;
 use toml::Table;
@@ -88,6 +89,8 @@ fn group_of(alloc: Global, table: &Table) -> Result<Group, GroupFault>
     let settings = settings_of(alloc, table)?;
     let machines = machines(alloc, table)?;
     refuse_ports(&settings.console_sockets, machines.as_slice())?;
+    let may_be_exposed = settings.key_file.is_some() || settings.is_insecure;
+    refuse_exposed(may_be_exposed, machines.as_slice())?;
     let identity = identity(table)?;
     Ok(Group {
         name: settings.name,
@@ -102,6 +105,8 @@ fn group_of(alloc: Global, table: &Table) -> Result<Group, GroupFault>
         cold_start: settings.cold_start,
         console_key: settings.console_key,
         console_sockets: settings.console_sockets,
+        key_file: settings.key_file,
+        is_insecure: settings.is_insecure,
         machines,
     })
 }
@@ -117,6 +122,8 @@ pub(crate) struct Settings {
     pub(crate) cold_start: ColdStart,
     pub(crate) console_key: Option<String>,
     pub(crate) console_sockets: Option<String>,
+    pub(crate) key_file: Option<String>,
+    pub(crate) is_insecure: bool,
 }
 
 fn settings_of(alloc: Global, table: &Table) -> Result<Settings, GroupFault>
@@ -130,6 +137,8 @@ fn settings_of(alloc: Global, table: &Table) -> Result<Settings, GroupFault>
     let cold_start = cold_start(table)?;
     let console_key = console_key(alloc, table)?;
     let console_sockets = console_sockets(alloc, table)?;
+    let key_file = key_file(alloc, table)?;
+    let is_insecure = insecure(table)?;
     Ok(Settings {
         name,
         period,
@@ -139,6 +148,8 @@ fn settings_of(alloc: Global, table: &Table) -> Result<Settings, GroupFault>
         cold_start,
         console_key,
         console_sockets,
+        key_file,
+        is_insecure,
     })
 }
 

@@ -96,6 +96,7 @@ fn why_text(key: Key, why: Why) -> &'static [u8]
         Why::AbovePatience => b" refused: above a fifth of patience\n",
         Why::Everywhere => b" refused: one address of the machine\n",
         Why::BesidePorts => b" refused: a machine has a console of its own\n",
+        Why::WithoutKey => b" refused: without a key only 127.0.0.1, unless insecure = true\n",
     }
 }
 

@@ -4,8 +4,8 @@ ghost use Rattle.std.specs.Prelude.{◌≡◌, ◌↔◌, ℕ, List, Some, map, 
 ghost use Rattle.std.specs.List.{list_all};
 ghost use Rattle.std.specs.Net.Grammar.{IsSocketText};
 ghost use Rattle.toml.specs.View.{view};
-ghost use Rattle.plc_group.specs.Values.{address_in, address_of, cold_start_of, console_key_of, directory_of, identity_in};
-ghost use Rattle.plc_group.specs.Values.{identity_of, is_console_key, is_directory, is_name, is_size, is_visible};
+ghost use Rattle.plc_group.specs.Values.{address_in, address_of, cold_start_of, console_key_of, path_of, identity_in};
+ghost use Rattle.plc_group.specs.Values.{identity_of, is_console_key, is_path, is_name, is_size, is_visible};
 ghost use Rattle.plc_group.specs.Values.{machines_of, name_of, number_in, written_address};
 
 use crate::group::ColdStart;
@@ -64,20 +64,20 @@ fn is_console_key(bytes: &[u8]) -> bool
     8 <= bytes.len() && bytes.len() <= 128 && are_visible(bytes)
 }
 
-/// A directory: a path from the root, of at most 90 visible bytes of ASCII.
-pub(crate) fn directory_of(value: &Value) -> Option<&str>
-    ensures { option_copied result ≡ directory_of (view value.now) }
+/// A path from the root, of at most 90 visible bytes of ASCII.
+pub(crate) fn path_of(value: &Value) -> Option<&str>
+    ensures { option_copied result ≡ path_of (view value.now) }
 {
     let path = value.as_str()?;
-    if is_directory(path.as_bytes()) {
+    if is_path(path.as_bytes()) {
         Some(path)
     } else {
         None
     }
 }
 
-fn is_directory(bytes: &[u8]) -> bool
-    ensures { result ≡ is_directory bytes.now }
+fn is_path(bytes: &[u8]) -> bool
+    ensures { result ≡ is_path bytes.now }
 {
     bytes.starts_with(b"/") && bytes.len() <= 90 && are_visible(bytes)
 }

@@ -7,6 +7,7 @@ use net_peers::{PeerCutter, PeerLink};
 use plc_host_core::{is_answer, recovering_in};
 use std::alloc::AllocError;
 use std::net::{Net, TcpListener, TcpStream};
+use std::random::RandomSource;
 use std::sync::atomic::{AtomicBool, AtomicU64, Ordering};
 use std::sync::{Arc, Wait};
 use std::time::Clock;
@@ -122,7 +123,12 @@ pub(crate) struct HeldLink<R: Wait + Drop> {
 
 impl<R> Link for HeldLink<R>
 where
-    R: Wait + Clock + Net<Listener = TcpListener, Stream = TcpStream> + Copy + Drop,
+    R: Wait
+        + Clock
+        + RandomSource
+        + Net<Listener = TcpListener, Stream = TcpStream>
+        + Copy
+        + Drop,
 {
     ghost inputs = { λ _. None };
 
@@ -159,6 +165,7 @@ impl<R> Relink for HeldLink<R>
 where
     R: Wait
         + Clock
+        + RandomSource
         + Net<Listener = TcpListener, Stream = TcpStream>
         + Copy
         + Send

@@ -168,6 +168,14 @@ fn visit_in(frame: &[u8], identity: &[u8; 32]) -> Option<Visit>
     if &said == identity { Some(visit) } else { None }
 }
 
+/// Whether a word is of the machine that has proved that it says it, where there's a key.
+fn is_by(visit: &Visit, by: Option<u8>) -> bool {
+    match by {
+        Some(machine) => machine == visit.from,
+        None => true,
+    }
+}
+
 /// Whether a machine is among these, by bits.
 pub(crate) fn is_among(machines: u8, machine: u8) -> bool {
     machine < 8 && machines >> machine & 1 == 1
@@ -206,6 +214,7 @@ where
             identity,
             number,
             replicas,
+            keys,
             ..
         } = machine;
         let speaker = Speaker {
@@ -213,6 +222,7 @@ where
             alloc: host.alloc,
             identity,
             number,
+            keys,
             addresses: replicas,
         };
         Ok(Keeper {
@@ -336,9 +346,12 @@ where
     /// What was said to it by machines of its group. What there is no memory for is lost.
     pub(crate) fn words(&self) -> Vec<Visit> {
         let mut words = Vec::new(self.host.alloc);
-        for frame in self.terms.exchange.visits(&self.host.rt, self.host.alloc) {
-            if let Some(visit) = visit_in(frame.as_slice(), &self.speaker.identity) {
-                let _ = words.push(visit);
+        for visited in self.terms.exchange.visits(&self.host.rt, self.host.alloc) {
+            match visit_in(visited.bytes.as_slice(), &self.speaker.identity) {
+                Some(visit) if is_by(&visit, visited.by) => {
+                    let _ = words.push(visit);
+                }
+                _ => {}
             }
         }
         words

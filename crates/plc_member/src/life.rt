@@ -13,6 +13,7 @@ use crate::serving::MachineRuntime;
 use crate::stop::Stop;
 use il_loader::Image;
 use net_hello::Epoch;
+use net_keys::Keys;
 use net_peers::{Exchange, Machine};
 use plc_epochs::{ColdStart, Place};
 use plc_group::{ColdStart as Manner, Group};
@@ -105,9 +106,10 @@ fn greeting_machine(
     group: &Group,
     origin: &Origin,
     cold_start: &ColdStart,
+    keys: Option<Keys>,
 ) -> Result<Machine, AllocError> {
     let hello = hello_of(cold_start.greeting());
-    machine_of(alloc, group, &origin.header, hello, origin.starts)
+    machine_of(alloc, group, &origin.header, hello, origin.starts, keys)
 }
 
 /// What a machine keeps to whose links share this.
@@ -131,9 +133,10 @@ fn connected<R: MachineRuntime>(
     group: &Group,
     origin: &Origin,
     address: SocketAddr,
+    keys: Option<Keys>,
 ) -> Result<(Linked<R>, Keeper<R>), Failed> {
     let cold_start = cold_start_of(group, origin);
-    let machine = greeting_machine(host.alloc, group, origin, &cold_start)?;
+    let machine = greeting_machine(host.alloc, group, origin, &cold_start, keys)?;
     let linked = linked_at(host, &machine, address);
     let (machine, linked) = both(machine, linked)?;
     let terms = terms_of(host.alloc, group, origin.is_marked, &linked.exchange);
@@ -148,8 +151,9 @@ pub(crate) fn life_of<R: MachineRuntime>(
     group: &Group,
     origin: Origin,
     address: SocketAddr,
+    keys: Option<Keys>,
 ) -> Result<Life<R>, Failed> {
-    let connected = connected(host, group, &origin, address);
+    let connected = connected(host, group, &origin, address, keys);
     let (origin, (linked, keeper)) = both(origin, connected)?;
     Ok(Life {
         origin,

@@ -4,6 +4,7 @@ ghost use Rattle.std.specs.Prelude.{◌≡◌, IfOk};
 ghost use Rattle.plc_member.specs.Keeping.{IsToldBy, hello_of};
 
 use net_hello::Epoch;
+use net_keys::Keys;
 use net_peers::{Exchange, Machine, PeerLink, Pulse, machine_links};
 use plc_epochs::Greeting;
 use plc_group::{Group, Machine as Place};
@@ -69,6 +70,7 @@ pub(crate) fn machine_of(
     header: &Header,
     epoch: Epoch,
     starts: u64,
+    keys: Option<Keys>,
 ) -> Result<Machine, AllocError>
     ensures { IfOk result (IsToldBy header.now epoch starts) }
 {
@@ -82,6 +84,7 @@ pub(crate) fn machine_of(
         number: header.machine,
         replicas: addresses(alloc, group.machines.as_slice())?,
         has_console: has_console(group, header.machine),
+        keys,
         pulse: Pulse::of(group.times.patience, group.times.resend),
     })
 }

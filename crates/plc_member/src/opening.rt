@@ -17,6 +17,7 @@ use crate::unserved::Unserved;
 use il_loader::load;
 use io_model::CountedWrite;
 use net_hello::Epoch;
+use net_keys::Keys;
 use plc_epochs::Kept;
 use plc_group::Group;
 use plc_host::{Failed, Host};
@@ -44,6 +45,8 @@ pub struct Member<R: Files + Drop> {
     directory: FileDirectory<R>,
     path: String,
     beginning: Beginning<R>,
+    /// By which it proves that it's of its group, if that has any.
+    keys: Option<Keys>,
     /// What ends it.
     stop: Stop,
 }
@@ -122,8 +125,15 @@ impl<R: MachineRuntime + Files<File = File> + Alloc<A = Global>> Member<R> {
             directory: FileDirectory::take(host.rt, host.alloc, path)?,
             path: String::from_str(host.alloc, path)?,
             beginning: Beginning::new(host.rt, host.alloc, path)?,
+            keys: None,
             stop: Stop::new(host.alloc)?,
         })
+    }
+
+    /// The same, which proves by these keys that it's of its group.
+    pub fn keyed(mut self, keys: Option<Keys>) -> Member<R> {
+        self.keys = keys;
+        self
     }
 
     /// What ends its serving.
@@ -226,7 +236,7 @@ where
         let Some(place) = group.machines.get(usize::from(origin.header.machine)) else {
             return Err(Unserved::Refused(Refusal::OtherMachine));
         };
-        Ok(life_of(host, group, origin, place.replica)?)
+        Ok(life_of(host, group, origin, place.replica, self.keys)?)
     }
 
     /// What comes of a life whose links are up, by what its store kept as it began.

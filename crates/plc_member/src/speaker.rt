@@ -6,10 +6,12 @@ ghost use Rattle.plc_member.specs.Probing.{reaching};
 
 use crate::keeper::is_among;
 use net_hello::Epoch;
-use net_peers::visit;
+use net_keys::Keys;
+use net_peers::Visitor;
 use plc_epochs::{Visit, Word};
 use std::alloc::Global;
 use std::net::{Net, SocketAddr, TcpListener, TcpStream};
+use std::random::RandomSource;
 use std::sync::Wait;
 use std::time::{Clock, Duration};
 use vr_model::MOST_REPLICAS;
@@ -40,13 +42,20 @@ pub(crate) struct Speaker<R: Drop> {
     pub(crate) identity: [u8; 32],
     /// Of its machine.
     pub(crate) number: u8,
+    /// Of its group, if that has any.
+    pub(crate) keys: Option<Keys>,
     /// Where the replica of each machine listens.
     pub(crate) addresses: Vec<SocketAddr>,
 }
 
 impl<R> Speaker<R>
 where
-    R: Wait + Clock + Net<Listener = TcpListener, Stream = TcpStream> + Copy + Drop,
+    R: Wait
+        + Clock
+        + RandomSource
+        + Net<Listener = TcpListener, Stream = TcpStream>
+        + Copy
+        + Drop,
 {
     /// Says a word to a machine, in this epoch. Where it isn't reached soon, or memory is wanting, the word is lost.
     /// There are connections with these machines, by bits.
@@ -62,7 +71,12 @@ where
         };
         if let Ok(frame) = said.spell(self.alloc) {
             let longest = reaching(is_among(connected, to));
-            let _ = visit(&self.rt, *address, frame.as_slice(), longest);
+            let visitor = Visitor {
+                keys: self.keys,
+                from: self.number,
+                to,
+            };
+            let _ = visitor.visit(&self.rt, self.alloc, *address, frame.as_slice(), longest);
         }
     }
 

@@ -112,6 +112,7 @@ impl Teller {
             heard: 0,
             others,
             has_majority: true,
+            forged: 0,
         };
         status.set_machine(machine);
         Teller {
@@ -194,10 +195,20 @@ impl Teller {
         }
     }
 
-    /// Notes what changed of the connections.
+    /// Notes what changed of the connections, and counts those that ended by what was forged or damaged.
     pub(crate) fn note_links<R: ServiceRuntime>(&mut self, host: &Host<R>) {
         for notice in self.exchange.notices(&host.rt, host.alloc) {
-            note(told_of(notice), &mut self.journal);
+            let told = told_of(notice);
+            self.count_forged(told);
+            note(told, &mut self.journal);
+        }
+    }
+
+    /// Counts a connection with a machine, if that's what ended by what was forged or damaged.
+    fn count_forged(&mut self, told: Option<Notice>) {
+        if let Some(Notice::MachineForged(_)) = told {
+            self.machine.forged = self.machine.forged.saturating_add(1);
+            self.status.set_machine(self.machine);
         }
     }
 

@@ -4,6 +4,7 @@ ghost use Rattle.std.specs.Prelude.{◌≡◌};
 ghost use Rattle.plc_member.specs.Watching.{IsNoted, turn_of};
 
 use net_hello::Refusal;
+use net_keys::ChallengeFault;
 use net_peers::LinkNotice;
 use plc_status::{Journal, Notice, Why};
 use std::time::Duration;
@@ -111,11 +112,29 @@ fn why_of(refusal: Refusal) -> Why {
     }
 }
 
+/// What is told of who isn't met.
+fn why_unmet(fault: ChallengeFault) -> Why {
+    match fault {
+        ChallengeFault::NoChallenge => Why::NoChallenge,
+        ChallengeFault::NoKey => Why::NoKey,
+        ChallengeFault::OtherVersion => Why::OtherVersion,
+        ChallengeFault::OwnChallenge => Why::OwnChallenge,
+        ChallengeFault::OtherMachine => Why::OtherMachine,
+        ChallengeFault::OwnMachine => Why::OwnParty,
+        ChallengeFault::OtherKey => Why::OtherKey,
+        ChallengeFault::Forged => Why::Forged,
+    }
+}
+
 /// What is told of a change of the connections: of replicas, and of each refusal.
 pub(crate) fn told_of(notice: LinkNotice) -> Option<Notice> {
     match notice {
         LinkNotice::Joined(party) => Some(Notice::MachineJoined(machine_of(party)?)),
         LinkNotice::Lost(party) => Some(Notice::MachineLost(machine_of(party)?)),
+        LinkNotice::Unmet(machine, fault) => {
+            Some(Notice::MachineRefused(machine, why_unmet(fault)))
+        }
+        LinkNotice::Forged(party) => Some(Notice::MachineForged(machine_of(party)?)),
         LinkNotice::Refused(None, refusal) => Some(Notice::MachineRefused(None, why_of(refusal))),
         LinkNotice::Refused(Some(party), refusal) => {
             Some(Notice::MachineRefused(Some(machine_of(party)?), why_of(refusal)))

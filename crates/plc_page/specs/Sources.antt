@@ -87,6 +87,7 @@ machine_of (whose.Machine number) (Some published) =
       heard = published.heard;
       others = published.others;
       has_majority = published.has_majority;
+      forged = published.forged;
     })
 
 -- outputs that were released here are those of the controller: of a machine that stands by they aren't

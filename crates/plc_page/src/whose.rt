@@ -43,6 +43,7 @@ impl Whose {
             heard: published.heard,
             others: published.others,
             has_majority: published.has_majority,
+            forged: published.forged,
         })
     }
 }

@@ -54,6 +54,12 @@ why_name causes.OtherFresh = codes "another fresh"
 why_name causes.OtherStore = codes "another store: format it with --wait"
 why_name causes.OwnStore = codes "it has seen another store of this machine: format this one with --wait"
 why_name causes.OwnStarts = codes "it has seen a copy of this machine's store"
+why_name causes.NoChallenge = codes "no challenge"
+why_name causes.NoKey = codes "no key"
+why_name causes.OtherKey = codes "another key"
+why_name causes.OtherMachine = codes "another machine: see the addresses"
+why_name causes.OwnChallenge = codes "own challenge"
+why_name causes.Forged = codes "forged or damaged record"
 
 -- who was refused: the machine of this number, or one that told none
 abbrev pub refused_party : Option ℕ → List ℕ
@@ -202,6 +208,7 @@ notice_line (notices.NoFrame number) = replica_line number (codes " no frame\n")
 notice_line (notices.Hangs number) = replica_line number (codes " hangs\n")
 notice_line (notices.MachineJoined number) = machine_line number (codes " joined\n")
 notice_line (notices.MachineLost number) = machine_line number (codes " lost\n")
+notice_line (notices.MachineForged number) = machine_line number (codes " lost: forged or damaged record\n")
 notice_line (notices.MachineRefused number why) = refused_line number why
 notice_line (notices.ReplicaNormalIn view) = view_line (codes "replica normal") view
 notice_line notices.ReplicaNotNormal = codes "replica not normal\n"

@@ -24,10 +24,10 @@ IsCounted (Some machine) = (machine.heard < 256) × (machine.others < 256)
 
 -- zeros where the process is no machine of a group
 abbrev pub machine_words : Option MachineStatus → List ℕ
-machine_words None = 0 ∷ 0 ∷ 0 ∷ 0 ∷ 0 ∷ []
+machine_words None = 0 ∷ 0 ∷ 0 ∷ 0 ∷ 0 ∷ 0 ∷ []
 machine_words (Some machine) =
     course_word machine.is_driving ∷ machine.epoch ∷ machine.heard ∷ machine.others
-    ∷ majority_word machine.has_majority ∷ []
+    ∷ majority_word machine.has_majority ∷ machine.forged ∷ []
 
 -- ---- a group, and its scans
 

@@ -5,7 +5,7 @@ ghost use Rattle.plc_status.specs.Published.{IsCounted, course_word, machine_wor
 ghost use Rattle.plc_status.specs.declared.machine.MachineStatus.{MachineStatus as Machine};
 
 /// So many words tell of a machine, or that there is none.
-pub(crate) const WORDS: usize = 5;
+pub(crate) const WORDS: usize = 6;
 
 /// What shows of a machine of a group.
 #[derive(Clone, Copy, Debug, PartialEq, Eq)]
@@ -20,6 +20,8 @@ pub struct MachineStatus {
     pub others: u8,
     /// It hears enough of them for a majority with it, or did a few seconds ago.
     pub has_majority: bool,
+    /// So many connections with them ended by a record that was forged or damaged.
+    pub forged: u64,
 }
 
 /// The word that tells whether a machine drives.
@@ -41,13 +43,14 @@ pub(crate) fn machine_words(machine: Option<MachineStatus>) -> [u64; WORDS]
     ensures { result ≡ machine_words machine }
 {
     match machine {
-        None => [0, 0, 0, 0, 0],
+        None => [0, 0, 0, 0, 0, 0],
         Some(machine) => [
             course_word(machine.is_driving),
             machine.epoch,
             u64::from(machine.heard),
             u64::from(machine.others),
             majority_word(machine.has_majority),
+            machine.forged,
         ],
     }
 }
@@ -63,7 +66,7 @@ fn byte_in(word: u64) -> u8
 pub(crate) fn machine_in(words: [u64; WORDS]) -> Option<MachineStatus>
     ensures { (machine : Option Machine) → IsCounted machine → words ≡ machine_words machine → result ≡ machine }
 {
-    let epoch = words[1];
+    let (epoch, forged) = (words[1], words[5]);
     let (heard, others) = (byte_in(words[2]), byte_in(words[3]));
     let has_majority = words[4] == 1;
     match words[0] {
@@ -73,6 +76,7 @@ pub(crate) fn machine_in(words: [u64; WORDS]) -> Option<MachineStatus>
             heard,
             others,
             has_majority,
+            forged,
         }),
         2 => Some(MachineStatus {
             epoch,
@@ -80,6 +84,7 @@ pub(crate) fn machine_in(words: [u64; WORDS]) -> Option<MachineStatus>
             heard,
             others,
             has_majority,
+            forged,
         }),
         _ => None,
     }

@@ -37,6 +37,18 @@ pub enum Why {
     OwnStore,
     /// It has seen this machine started more often: by a copy of its store.
     OwnStarts,
+    /// It doesn't begin as machines of a group with a key do.
+    NoChallenge,
+    /// It begins as machines of a group without a key do.
+    NoKey,
+    /// It names a key that this machine hasn't.
+    OtherKey,
+    /// It isn't the machine that was dialled, or takes this one for another.
+    OtherMachine,
+    /// It sends back what this machine sent.
+    OwnChallenge,
+    /// Its sum isn't the one of the key that it names.
+    Forged,
 }
 
 /// A change, as it is told by a line of its own.
@@ -60,6 +72,8 @@ pub enum Notice {
     MachineJoined(u8),
     /// It isn't any more.
     MachineLost(u8),
+    /// It isn't any more, since a record of it was forged or damaged.
+    MachineForged(u8),
     /// A connection was refused: that of this machine, if it told its number.
     MachineRefused(Option<u8>, Why),
     /// The replica of this machine is normal in this view.
@@ -186,6 +200,12 @@ fn name_of_why(why: Why) -> &'static str
         Why::OtherStore => "another store: format it with --wait",
         Why::OwnStore => "it has seen another store of this machine: format this one with --wait",
         Why::OwnStarts => "it has seen a copy of this machine's store",
+        Why::NoChallenge => "no challenge",
+        Why::NoKey => "no key",
+        Why::OtherKey => "another key",
+        Why::OtherMachine => "another machine: see the addresses",
+        Why::OwnChallenge => "own challenge",
+        Why::Forged => "forged or damaged record",
     }
 }
 
@@ -328,6 +348,9 @@ pub(crate) fn put_line<E: CountedWrite>(err: &mut E, notice: Notice) -> Result<(
         Notice::Hangs(number) => put_replica(err, number, b" hangs\n"),
         Notice::MachineJoined(number) => put_machine(err, number, b" joined\n"),
         Notice::MachineLost(number) => put_machine(err, number, b" lost\n"),
+        Notice::MachineForged(number) => {
+            put_machine(err, number, b" lost: forged or damaged record\n")
+        }
         Notice::MachineRefused(number, why) => put_refused(err, number, why),
         Notice::ReplicaNormalIn(view) => put_view(err, b"replica normal", view),
         Notice::ReplicaNotNormal => put(err, b"replica not normal\n"),

@@ -6,10 +6,10 @@ use crate::help;
 use crate::options::{
     CHANGE, CHECK, CONSOLE_SOCKET, CRASH, DIRECTORY, IDLE, LISTED, PERIOD, REPORT, SCANS, SOURCE,
     STALE, TIMEOUT, asked_commands, budget, changed, changed_listing, console, console_key, count,
-    directory, epoch, every, failures, faults, field_status, file, flag, forget, formatted_source,
-    group_file, hours, links, machine, made_store, new_group, next_epoch, once, place, port,
-    position, schedule, seed, served_group, served_source, simulated_group, status, stop, text,
-    told, trace, until, wait,
+    directory, epoch, every, failures, faults, field_status, file, flag, forget, formatted_group,
+    formatted_source, hours, links, machine, made_store, new_group, new_key, next_epoch, once,
+    place, port, position, schedule, seed, served_group, served_source, simulated_group, status,
+    stop, text, told, trace, until, wait,
 };
 use clap::{Arg, Command};
 use std::alloc::{AllocError, Global};
@@ -224,15 +224,16 @@ fn sim_forms() -> [Form; 11] {
     ]
 }
 
-/// For a new store; and then for a new group, and for a store that is put into another epoch.
-fn format_forms() -> [Form; 10] {
+/// For a new store; and then for a new group or a new key, and for a store that is put into another epoch.
+fn format_forms() -> [Form; 11] {
     [
         formatted_source(),
-        group_file(),
+        formatted_group(),
         machine(),
         made_store(),
         wait(),
         new_group(),
+        new_key(),
         next_epoch(),
         epoch(),
         changed(),

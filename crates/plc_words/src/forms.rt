@@ -10,8 +10,8 @@ use crate::operators::OperatorsAt;
 use crate::options::{
     BUDGET, CHANGE, CHANGED, CHECK, CONSOLE, CONSOLE_KEY, CONSOLE_SOCKET, CRASH, DIRECTORY, EPOCH,
     EVERY, FAILURES, FAULTS, FORGET, GROUP, HOURS, IDLE, LINKS, LISTED, MACHINE, NEW_GROUP,
-    NEXT_EPOCH, ONCE, PERIOD, PLACE, PORT, POSITION, REPORT, SCANS, SEED, STALE, STATUS, STOP,
-    STORE, TCP, TIMEOUT, TRACE, UNTIL, WAIT,
+    NEW_KEY, NEXT_EPOCH, ONCE, PERIOD, PLACE, PORT, POSITION, REPORT, SCANS, SEED, STALE, STATUS,
+    STOP, STORE, TCP, TIMEOUT, TRACE, UNTIL, WAIT,
 };
 use crate::places::place_at;
 use clap::ArgMatches;
@@ -123,6 +123,10 @@ pub enum Words<'a> {
     /// Draws the identity of a group into its file.
     NewGroup {
         group: &'a str,
+    },
+    /// Draws a key for the machines of a group into a file.
+    NewKey {
+        path: &'a str,
     },
     /// Puts the store of a machine into an epoch by hand.
     EnterEpoch {
@@ -521,6 +525,9 @@ fn shown<'a>(inner: &ArgMatches<'a>) -> Option<Words<'a>>
 fn formatted<'a>(inner: &ArgMatches<'a>) -> Option<Words<'a>>
     ensures { IfSome result IsLostAfterAMinute }
 {
+    if let Some(path) = inner.get_str(NEW_KEY) {
+        return Some(Words::NewKey { path });
+    }
     let group = inner.get_str(GROUP)?;
     if inner.get_flag(NEW_GROUP) {
         return Some(Words::NewGroup { group });

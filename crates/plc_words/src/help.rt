@@ -401,6 +401,12 @@ pub(crate) const FORMATTING: &str = with_source_faults!(
     "With --new-group the identity of a new group is drawn, and put into GROUP as its first line. That's done
 once; then each machine gets a copy of the file.
 
+With --new-key a key of the group is drawn into FILE, which nobody else may read: a line of 64 hexadecimal
+digits. Each machine gets a copy, by a way that keeps it secret, and 'key' in GROUP has its path. By it the
+machines know each other, and what goes between them can't be forged. A second line has a key that is heard,
+too: so a group changes its key, one machine after the other, in three rounds: the new one as second line,
+both lines exchanged, the old one gone.
+
 Without it, the store is made with which a machine of a group begins: the group, the machine's number, a
 random number of its own, and the image of the program. DIR is made where it isn't there; where it holds
 anything of a store nothing changes. A new machine enters the group's first epoch. With --wait it's one
@@ -430,6 +436,9 @@ GROUP is the same file on each machine, in TOML. Its keys, and what they are whe
                              fifth of patience where that's less; never more than that fifth
   idle = 300                 seconds until a silent client is disconnected, 1 to 86400
   cold_start = \"auto\"        or \"by hand\": where all have lost their memory together
+  key                        the path of the file of the group's key, from the root; without a key each
+                             replica has to be at 127.0.0.1
+  insecure = false           true: replicas may be at other addresses without a key
   console_key                8 to 128 visible characters that a console asks for first
   console_sockets            a directory: the console of machine I is its socket console-I, at no port
   replica, modbus            of a machine: an address and a port, for the other machines and for Modbus
@@ -446,6 +455,9 @@ A fault of GROUP or of DIR is one line on standard error. Machines are counted f
   plc: group machine I KEY WHY  the same of machine I; twice: its address stands before it too
   plc: group machine I missing  the group has no machine I
   plc: group identity there  --new-group was done before
+  plc: group key there       FILE is there already
+  plc: group key open to all  others than its owner and its group may read the key
+  plc: group key refused: WHY  it isn't one line of 64 hexadecimal digits, or two with two keys
   plc: group console_key open to all  others than its owner and its group may read GROUP
   plc: store used            DIR holds something of a store
   plc: store taken           another process has DIR

@@ -75,6 +75,9 @@ pub(crate) const WAIT: &str = "wait";
 /// The word of the option `--new-group`.
 pub(crate) const NEW_GROUP: &str = "new-group";
 
+/// The word of the option `--new-key`.
+pub(crate) const NEW_KEY: &str = "new-key";
+
 /// The word of the option `--next-epoch`.
 pub(crate) const NEXT_EPOCH: &str = "next-epoch";
 
@@ -128,16 +131,19 @@ pub(crate) const ONCE: &str = "once";
 pub(crate) const STOP: &str = "stop";
 
 /// By one of these something else than a new store is made.
-const NO_NEW_STORE: &[&str] = &[NEW_GROUP, NEXT_EPOCH, EPOCH];
+const NO_NEW_STORE: &[&str] = &[NEW_GROUP, NEW_KEY, NEXT_EPOCH, EPOCH];
 
 /// Beside one of these no store is put into another epoch.
-const NO_EPOCH: &[&str] = &[NEW_GROUP, MACHINE, WAIT];
+const NO_EPOCH: &[&str] = &[NEW_GROUP, NEW_KEY, MACHINE, WAIT];
 
 /// Beside one of these no store is put into the next epoch.
-const NO_NEXT_EPOCH: &[&str] = &[NEW_GROUP, EPOCH];
+const NO_NEXT_EPOCH: &[&str] = &[NEW_GROUP, NEW_KEY, EPOCH];
 
 /// Beside one of these an epoch begins with no changed program.
-const NO_CHANGED: &[&str] = &[NEW_GROUP, MACHINE, WAIT, SOURCE];
+const NO_CHANGED: &[&str] = &[NEW_GROUP, NEW_KEY, MACHINE, WAIT, SOURCE];
+
+/// By one of these no store is made or looked for.
+const NO_STORE: &[&str] = &[NEW_GROUP, NEW_KEY];
 
 /// Beside one of these no other `plc field` is asked to end.
 const NO_STOP: &[&str] = &[CHECK, ONCE];
@@ -263,11 +269,6 @@ pub(crate) fn directory() -> Form {
     )
 }
 
-/// The file of a group is wanted.
-pub(crate) fn group_file() -> Form {
-    text(GROUP, "GROUP").wanted().help("The file of the group")
-}
-
 /// The text is wanted where no group is given, and refused where one is.
 pub(crate) fn served_source() -> Form {
     Form::new(SOURCE, Kind::File)
@@ -290,12 +291,12 @@ pub(crate) fn trace() -> Form {
         .refused_beside(&[SOURCE])
 }
 
-/// The text is wanted for a new store, and refused for a new group.
+/// The text is wanted for a new store, and refused for a new group or a new key.
 pub(crate) fn formatted_source() -> Form {
     Form::new(SOURCE, Kind::File)
         .help("The program's text, in Instruction List")
         .wanted_unless(NO_NEW_STORE)
-        .refused_beside(&[NEW_GROUP])
+        .refused_beside(NO_STORE)
 }
 
 /// The option is wanted for a new store, and refused for one that is there.
@@ -306,12 +307,27 @@ pub(crate) fn machine() -> Form {
         .refused_beside(NO_NEW_STORE)
 }
 
-/// The option is wanted but for a new group, and refused for that.
+/// The option is wanted but for a new key, and refused for that.
+pub(crate) fn formatted_group() -> Form {
+    text(GROUP, "GROUP")
+        .help("The file of the group")
+        .wanted_unless(&[NEW_KEY])
+        .refused_beside(&[NEW_KEY])
+}
+
+/// The option is refused beside another one that says what is done.
+pub(crate) fn new_key() -> Form {
+    text(NEW_KEY, "FILE")
+        .help("Draws a key for the machines of a group into FILE, which isn't there")
+        .refused_beside(&[NEW_GROUP])
+}
+
+/// The option is wanted but for a new group or a new key, and refused for those.
 pub(crate) fn made_store() -> Form {
     text(STORE, "DIR")
         .help("The directory of the store")
-        .wanted_unless(&[NEW_GROUP])
-        .refused_beside(&[NEW_GROUP])
+        .wanted_unless(NO_STORE)
+        .refused_beside(NO_STORE)
 }
 
 /// The option is refused where a store is there already.
@@ -336,7 +352,7 @@ pub(crate) fn next_epoch() -> Form {
 pub(crate) fn epoch() -> Form {
     count(EPOCH, "N")
         .help("Puts the store that is there into epoch N: the same N at each machine, as 20261128")
-        .refused_beside(&[NEW_GROUP])
+        .refused_beside(NO_STORE)
 }
 
 /// The option is refused beside a text, and where no store is put into another epoch.

@@ -154,6 +154,7 @@ fn of_a_store(alloc: Global, words: &Words) -> Result<String, AllocError> {
             "format {directory}, program {source}, group {group}, machine {machine}, waits {waits}"
         ),
         Words::NewGroup { group } => format!(in alloc; "new group {group}"),
+        Words::NewKey { path } => format!(in alloc; "new key {path}"),
         Words::EnterEpoch {
             group,
             epoch,

@@ -1,0 +1,26 @@
+//! Sealed records below the frames of a connection between two machines that have a key: two bytes of a length, so many
+//! bytes of the frames, and a sum (`net_keys`). A record of length 0 is a beat, which says nothing else. `SealedRecords`
+//! stands between the ends of a connection (`net_ends`) and any reader and writer that never waits, as `Records`
+//! (`net_records`) does where there is no key.
+//!
+//! ```rust
+//! let mut records = SealedRecords::new(alloc, NonBlocking::new(stream), ends).ok()?; // `Ends` of net_keys
+//! outbox.flush(&mut records); // as over the stream itself
+//! records.push().ok()?; // what was sealed and not written yet
+//! inbox.read(alloc, &mut records, &mut messages);
+//! records.beat().ok()?; // nothing went for a while
+//! let signs = records.signs(); // whether a record came or anything went since that was asked last
+//! records.is_forged(); // whether it's over because a record was forged or damaged
+//! ```
+//!
+//! Proved: bytes are given only of a body that was opened under the next number, with the sum that stood behind it
+//! (`specs/Coming`), and a record that isn't so, or is longer than any that is sealed, ends the connection for good.
+//! What is taken is sealed under the next number, and its bytes wait until they are written (`specs/Going`). What
+//! follows for whole connections is in `net_keys` (`only_sealed_is_opened`).
+#![tactic(auto)]
+
+mod incoming;
+mod outgoing;
+mod records;
+
+pub use records::{SealedRecords, Signs};
