@@ -2,6 +2,7 @@
 it all the time. What they read and wrote is a history for the checker."""
 import itertools
 import os
+import re
 import shutil
 import signal
 import subprocess
@@ -31,6 +32,7 @@ PATIENT = Pace(20, 0.02, 90)
 WRITES = 0.03           # seconds from write to write
 WRITTEN = 0.5           # seconds until what was read is in a trace
 ENDS = signal.SIGKILL, signal.SIGTERM
+LINK = re.compile(r'machine (\d+) (joined|lost)\b')
 
 
 def now():
@@ -105,7 +107,7 @@ class Machine:
         """Whether it's up and normal, and so many other machines are joined to it."""
         told = self.since(self.started)
         standing = [line for line in told if line.startswith('replica n')][-1:]
-        near = {line.split()[1]: line.endswith(' joined') for line in told if line.endswith((' joined', ' lost'))}
+        near = {it[1]: it[2] == 'joined' for it in map(LINK.match, told) if it}
         is_normal = any(line.startswith('replica normal') for line in standing)
         return self.is_up() and is_normal and sum(near.values()) == others
 
@@ -122,7 +124,8 @@ class Group:
         self.reads, self.writes, self.commands, self.faults, self.holds = [], [], [], [], []
         self.is_over, self.threads, self.sessions, self.begun = False, [], itertools.count(), now()
         try:
-            keys = {'name': '"tried"', 'identity': f'"{os.urandom(16).hex()}"', 'period': options.period, **keys}
+            keys = {'name': '"tried"', 'identity': f'"{os.urandom(16).hex()}"', 'period': options.period,
+                    **getattr(over, 'keys', {}), **keys}
             self.keys = keys
             self.make(over or network.Loopback(self.size), has_disks, keys)
         except BaseException:

@@ -146,6 +146,7 @@ class Namespaces(Failing):
 
     name = 'network namespaces'
     pause = 0.004
+    keys = {'insecure': 'true'}     # replicas are at addresses that others reach
 
     def __init__(self, size):
         self.size, self.tag = size, self.free_tag()
