@@ -123,12 +123,7 @@ pub(crate) struct HeldLink<R: Wait + Drop> {
 
 impl<R> Link for HeldLink<R>
 where
-    R: Wait
-        + Clock
-        + RandomSource
-        + Net<Listener = TcpListener, Stream = TcpStream>
-        + Copy
-        + Drop,
+    R: Wait + Clock + RandomSource + Net<Listener = TcpListener, Stream = TcpStream> + Copy + Drop,
 {
     ghost inputs = { λ _. None };
 

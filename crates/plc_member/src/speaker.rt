@@ -50,12 +50,7 @@ pub(crate) struct Speaker<R: Drop> {
 
 impl<R> Speaker<R>
 where
-    R: Wait
-        + Clock
-        + RandomSource
-        + Net<Listener = TcpListener, Stream = TcpStream>
-        + Copy
-        + Drop,
+    R: Wait + Clock + RandomSource + Net<Listener = TcpListener, Stream = TcpStream> + Copy + Drop,
 {
     /// Says a word to a machine, in this epoch. Where it isn't reached soon, or memory is wanting, the word is lost.
     /// There are connections with these machines, by bits.
