@@ -1,5 +1,5 @@
 -- The lines that a run prints.
-use Rattle.std.specs.Prelude.{◌≡◌, ◌++◌, ◌/◌, ℕ, List, Option, Some, None, codes}
+use Rattle.std.specs.Prelude.{◌≡◌, ◌++◌, ◌/◌, ℕ, List, Option, None, codes}
 use Rattle.std.specs.Fmt.{decimal}
 use Rattle.std.specs.Io.KnownBytes.{Appends}
 use Rattle.vr_model.specs.Groups.{group_size}
@@ -31,10 +31,11 @@ abbrev pub releases_text : Summary → List ℕ
 releases_text summary =
     counted summary.tally.releases (codes " releases as the table says, ") (faults_text summary)
 
+abbrev pub scans_text : Summary → List ℕ
+scans_text summary = counted summary.scans (codes " scans, ") (releases_text summary)
+
 abbrev pub seen_text : Summary → List ℕ
-seen_text summary =
-    counted (group_size summary.setup.config.f) (codes " machines, ")
-    (counted summary.scans (codes " scans, ") (releases_text summary))
+seen_text summary = counted (group_size summary.setup.config.f) (codes " machines, ") (scans_text summary)
 
 abbrev pub summary_text : Summary → List ℕ
 summary_text summary =

@@ -34,10 +34,10 @@ pub enum Kind {
     DiskReadOnly,
 }
 
-/// So many kinds may be drawn at most; one that stands twice comes twice as often.
+/// So many kinds may be drawn at most.
 const MOST: usize = 16;
 
-/// Those of the seeds that are stored.
+/// Those of the seeds that are stored; one that stands twice comes twice as often.
 const STANDARD: [Kind; 12] = [
     Kind::Crash,
     Kind::Crash,
@@ -141,17 +141,31 @@ impl Kinds {
 
     /// Those of the seeds that are stored.
     pub fn standard() -> Kinds {
-        Kinds::none().with_all(STANDARD.as_slice())
+        let mut kinds = Kinds::none();
+        for kind in STANDARD {
+            kinds = kinds.with(kind);
+        }
+        kinds.loses_disks = true;
+        kinds
     }
 
-    /// With these, too; and disks are lost.
-    fn with_all(self, kinds: &[Kind]) -> Kinds {
-        let mut all = self;
-        for kind in kinds {
-            all = all.with(*kind);
+    /// With all, each once; and disks are lost.
+    fn with_all(self) -> Kinds {
+        let mut kinds = self;
+        for kind in ALL {
+            kinds = kinds.with_once(kind);
         }
-        all.loses_disks = true;
-        all
+        kinds.loses_disks = true;
+        kinds
+    }
+
+    /// With this one, unless it's there already.
+    fn with_once(self, kind: Kind) -> Kinds {
+        if self.has(kind) {
+            self
+        } else {
+            self.with(kind)
+        }
     }
 
     /// With one more, where there is room for it.
@@ -176,12 +190,12 @@ impl Kinds {
     pub fn with_word(self, word: &str) -> Option<Kinds> {
         match word {
             "none" => Some(self),
-            "all" => Some(self.with_all(ALL.as_slice())),
+            "all" => Some(self.with_all()),
             "disk-lost" => Some(Kinds {
                 loses_disks: true,
                 ..self
             }),
-            _ => Some(self.with(Kind::of(word)?)),
+            _ => Some(self.with_once(Kind::of(word)?)),
         }
     }
 

@@ -3,7 +3,7 @@
 ghost use Rattle.std.specs.Prelude.{◌≡◌, Some};
 ghost use Rattle.std.specs.Fmt.{DisplaysOnOk};
 ghost use Rattle.sim_run.specs.Told.{cold_starts_text, difference_text, event_word, faults_text, releases_text};
-ghost use Rattle.sim_run.specs.Told.{seen_text, summary_text, trace_text, wrong_words};
+ghost use Rattle.sim_run.specs.Told.{scans_text, seen_text, summary_text, trace_text, wrong_words};
 
 use crate::summary::Summary;
 use sim_checker::{Line, What, Wrong};
@@ -25,12 +25,21 @@ impl fmt::Display for SummaryLine<'_> {
     }
 }
 
-/// What was seen of the machines of a run.
+/// So many machines a run has, and what was seen of them.
 fn seen<W: fmt::Write>(f: &mut fmt::Formatter<W>, summary: &Summary) -> fmt::Result
     ensures { DisplaysOnOk W.write_str_gives f.old result (Some (seen_text summary.now)) f.new }
 {
-    let (machines, scans) = (summary.setup.config.group_size(), summary.scans);
-    write!(f, "{machines} machines, {scans} scans, ")?;
+    let machines = summary.setup.config.group_size();
+    write!(f, "{machines} machines, ")?;
+    scanned(f, summary)
+}
+
+/// So many scans there are, and what was released.
+fn scanned<W: fmt::Write>(f: &mut fmt::Formatter<W>, summary: &Summary) -> fmt::Result
+    ensures { DisplaysOnOk W.write_str_gives f.old result (Some (scans_text summary.now)) f.new }
+{
+    let scans = summary.scans;
+    write!(f, "{scans} scans, ")?;
     released(f, summary)
 }
 
