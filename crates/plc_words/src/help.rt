@@ -163,7 +163,7 @@ With --group the machines of GROUP run SOURCE by virtual time, and no SCHEDULE i
 goes by the seed, so a run is the same each time. Clients write the inputs that SOURCE names and read outputs,
 an operator forces, unforces and resets; each scan, each release and each read is held against what one
 controller does. The group begins anew by itself, whatever its cold_start says. Faults come for some seconds,
-then none until all is well, and again. Their kinds, once or more often:
+then none until all is well, and again. Their kinds, of which more than one may be given:
   none, all               no kind, as without --faults; each of these
   crash                   a process is killed, or its machine loses its power, and starts again
   power                   most machines, or all, lose their power at once

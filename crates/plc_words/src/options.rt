@@ -197,8 +197,8 @@ const MOST_PORT: i64 = 65_535;
 /// The greatest number of 32 bits.
 const MOST: i64 = 4_294_967_295;
 
-/// The greatest number of a step.
-const MOST_STEP: i64 = i64::MAX;
+/// The greatest number of a step: no run has so many.
+const MOST_STEP: i64 = 1_000_000_000_000_000;
 
 /// The most hours of a run: a year, in which clients can count their writes by two words.
 const MOST_HOURS: i64 = 8_760;
@@ -449,38 +449,43 @@ pub(crate) fn simulated_group() -> Form {
         .only_beside(SEED)
 }
 
-/// The option is refused where no group is run.
+/// The option is refused where no group is run, so beside a schedule.
 pub(crate) fn seed() -> Form {
     number(SEED, "S", 0, MOST)
         .help("By which all goes that comes by chance, 0 to 4294967295")
+        .refused_beside(&[SCHEDULE])
         .only_beside(GROUP)
 }
 
-/// The option is refused where no group is run.
+/// The option is refused where no group is run, so beside a schedule.
 pub(crate) fn hours() -> Form {
     number(HOURS, "H", 1, MOST_HOURS)
         .default_value("1")
         .help("How many hours of virtual time, 1 to 8760")
+        .refused_beside(&[SCHEDULE])
         .only_beside(GROUP)
 }
 
-/// The option is refused where no group is run.
+/// The option is refused where no group is run, so beside a schedule.
 pub(crate) fn faults() -> Form {
     Form::new(FAULTS, Kind::SomeOf("KIND", KINDS_OF_FAULTS))
         .help("A kind of faults that come; without it, none do")
+        .refused_beside(&[SCHEDULE])
         .only_beside(GROUP)
 }
 
-/// The option is refused where no group is run.
+/// The option is refused where no group is run, so beside a schedule.
 pub(crate) fn until() -> Form {
     number(UNTIL, "N", 1, MOST_STEP)
-        .help("Ends the run behind step N")
+        .help("Ends the run behind step N, 1 to 1000000000000000")
+        .refused_beside(&[SCHEDULE])
         .only_beside(GROUP)
 }
 
-/// The option is refused where no group is run.
+/// The option is refused where no group is run, so beside a schedule.
 pub(crate) fn told() -> Form {
     flag(TRACE)
         .help("Prints what happens, a line each")
+        .refused_beside(&[SCHEDULE])
         .only_beside(GROUP)
 }
