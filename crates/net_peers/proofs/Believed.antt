@@ -1,4 +1,5 @@
 -- What a machine has proved.
+use mathlib.Core.Logic.{∥∥₁_map}
 use Rattle.std.proofs.Common.{◌≡◌, ℕ, List, inl, inr, refl, sym, subst}
 use Rattle.net_hello.specs.declared.hello.Hello.{Hello}
 use Rattle.net_hello.specs.Hellos.{IsHello}
@@ -14,17 +15,17 @@ use Rattle.net_peers.specs.Proved.{HasCalled, IsLeft, IsProved, IsSaidByDialler,
 
 -- a machine that was dialled is met
 pub has_called : (guard : Guard) (machine : ℕ) (nonce : List ℕ) (dialled : Dialled) (answer : Challenge) (proof : List ℕ) (ends : Ends)
-    → dialled ≡ dialled_by guard machine nonce → MeetsListener dialled answer proof ends → HasCalled guard machine nonce answer proof ends.opener
-has_called guard machine nonce dialled answer proof ends is met = record {
+    → dialled ≡ dialled_by guard machine nonce → MeetsListener dialled answer proof ends → ∥ HasCalled guard machine nonce answer proof ends.opener ∥₁
+has_called guard machine nonce dialled answer proof ends is met = ∣ record {
   ends = ends;
   met = subst (λ (d : Dialled). MeetsListener d answer proof ends) is met;
   opener_is = refl;
-}
+} ∣₁
 
 -- and says hello
 pub proved_by_listener : (guard : Guard) (machine : ℕ) (nonce : List ℕ) (answer : Challenge) (proof : List ℕ) (before after : Opener) (body sum : List ℕ) (hello : Hello)
-    → HasCalled guard machine nonce answer proof before → Opens before after body sum → IsHello hello body → machine_of hello.party ≡ machine → IsProved guard hello after
-proved_by_listener guard machine nonce answer proof before after body sum hello called opens spells own = record {
+    → ∥ HasCalled guard machine nonce answer proof before ∥₁ → Opens before after body sum → IsHello hello body → machine_of hello.party ≡ machine → ∥ IsProved guard hello after ∥₁
+proved_by_listener guard machine nonce answer proof before after body sum hello called opens spells own = ∥∥₁_map called (λ (h : HasCalled guard machine nonce answer proof before). record {
   body = body;
   spells = spells;
   said = inr (subst (λ (m : ℕ). IsSaidByListener guard m body after) (sym own) (record {
@@ -32,14 +33,14 @@ proved_by_listener guard machine nonce answer proof before after body sum hello 
     answer = answer;
     proof = proof;
     before = before;
-    called = called;
+    called = h;
     sum = sum;
     opens = opens;
   }));
-}
+})
 
 -- a machine that dialled is met
-pub said_by_dialler : (guard : Guard) (challenge : Challenge) (nonce : List ℕ) (answered : Answered) (body sum : List ℕ) (ends : Ends)
+said_by_dialler : (guard : Guard) (challenge : Challenge) (nonce : List ℕ) (answered : Answered) (body sum : List ℕ) (ends : Ends)
     → HasAnswered guard.keys guard.own challenge nonce answered → MeetsDialler answered body sum ends → IsSaidByDialler guard challenge.from body ends.opener
 said_by_dialler guard challenge nonce answered body sum ends has met = record {
   challenge = challenge;
@@ -55,18 +56,18 @@ said_by_dialler guard challenge nonce answered body sum ends has met = record {
 
 -- by its hello
 pub proved_by_dialler : (guard : Guard) (challenge : Challenge) (nonce : List ℕ) (answered : Answered) (body sum : List ℕ) (ends : Ends) (hello : Hello)
-    → HasAnswered guard.keys guard.own challenge nonce answered → MeetsDialler answered body sum ends → IsHello hello body → machine_of hello.party ≡ challenge.from
-    → IsProved guard hello ends.opener
-proved_by_dialler guard challenge nonce answered body sum ends hello has met spells own = record {
+    → ∥ HasAnswered guard.keys guard.own challenge nonce answered ∥₁ → MeetsDialler answered body sum ends → IsHello hello body → machine_of hello.party ≡ challenge.from
+    → ∥ IsProved guard hello ends.opener ∥₁
+proved_by_dialler guard challenge nonce answered body sum ends hello has met spells own = ∥∥₁_map has (λ (h : HasAnswered guard.keys guard.own challenge nonce answered). record {
   body = body;
   spells = spells;
-  said = inl (subst (λ (m : ℕ). IsSaidByDialler guard m body ends.opener) (sym own) (said_by_dialler guard challenge nonce answered body sum ends has met));
-}
+  said = inl (subst (λ (m : ℕ). IsSaidByDialler guard m body ends.opener) (sym own) (said_by_dialler guard challenge nonce answered body sum ends h met));
+})
 
 -- or by what it leaves
 pub left_by_dialler : (guard : Guard) (challenge : Challenge) (nonce : List ℕ) (answered : Answered) (body sum : List ℕ) (ends : Ends)
-    → HasAnswered guard.keys guard.own challenge nonce answered → MeetsDialler answered body sum ends → IsLeft guard challenge.from body
-left_by_dialler guard challenge nonce answered body sum ends has met = record {
+    → ∥ HasAnswered guard.keys guard.own challenge nonce answered ∥₁ → MeetsDialler answered body sum ends → ∥ IsLeft guard challenge.from body ∥₁
+left_by_dialler guard challenge nonce answered body sum ends has met = ∥∥₁_map has (λ (h : HasAnswered guard.keys guard.own challenge nonce answered). record {
   opener = ends.opener;
-  said = said_by_dialler guard challenge nonce answered body sum ends has met;
-}
+  said = said_by_dialler guard challenge nonce answered body sum ends h met;
+})

@@ -16,7 +16,7 @@ pub(crate) struct Proved {
     guard: Guard,
     pub(crate) hello: Hello,
     pub(crate) ends: Ends,
-    ghost is_proved: { IsProved guard hello ends.opener },
+    ghost is_proved: { ∥ IsProved guard hello ends.opener ∥₁ },
 }
 
 /// What the machine of this number has proved that it leaves.
@@ -25,7 +25,7 @@ pub(crate) struct Left {
     guard: Guard,
     pub(crate) by: u8,
     pub(crate) bytes: [u8; VISIT],
-    ghost is_left: { IsLeft guard by bytes },
+    ghost is_left: { ∥ IsLeft guard by bytes ∥₁ },
 }
 
 /// What a machine says first, as it has proved.
@@ -109,7 +109,7 @@ pub(crate) struct Called {
     answer: Challenge,
     proof: [u8; SUM],
     ends: Ends,
-    ghost has_called: { HasCalled guard machine nonce answer proof ends.opener },
+    ghost has_called: { ∥ HasCalled guard machine nonce answer proof ends.opener ∥₁ },
 }
 
 impl Called {
@@ -148,7 +148,7 @@ pub(crate) struct Answering {
     challenge: Challenge,
     nonce: [u8; 32],
     answered: Answered,
-    ghost has_answered: { HasAnswered guard.keys guard.own challenge nonce answered },
+    ghost has_answered: { ∥ HasAnswered guard.keys guard.own challenge nonce answered ∥₁ },
 }
 
 impl Answering {

@@ -183,10 +183,11 @@ fn met<R: RandomSource>(rt: &R, alloc: Global, meeting: Meeting, own: &Hello) ->
     match meeting.hear(rt, alloc, own) {
         Met::Waits => Heard::Waits(Introduction::Meeting(meeting)),
         Met::Says(Word::Hello(proved)) => Heard::Introduced(Introduced::Met(meeting.wire, proved)),
-        Met::Says(Word::Visit(left)) => Heard::Introduced(Introduced::Visited(Visited {
-            by: Some(left.by),
-            bytes: left.bytes,
-        })),
+        Met::Says(Word::Visit(left)) => {
+            let bytes = left.bytes;
+            let by = Some(left.by);
+            Heard::Introduced(Introduced::Visited(Visited { by, bytes }))
+        }
         Met::Unmet(machine, fault) => Heard::Introduced(Introduced::Unmet(machine, fault)),
         Met::Says(Word::Other) | Met::Over => Heard::Over,
     }
