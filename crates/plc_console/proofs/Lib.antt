@@ -4,3 +4,4 @@ mod Keys
 mod Sessions
 mod Passing
 mod Mirrors
+mod Fetching

@@ -4,3 +4,4 @@ pub mod Web
 pub mod Lines
 pub mod Sessions
 pub mod Sending
+pub mod Fetching

@@ -39,6 +39,7 @@
 
 mod asking;
 mod desk;
+mod fetching;
 mod front;
 mod key;
 mod line;
@@ -54,6 +55,7 @@ mod web;
 
 pub use asking::ask;
 pub use desk::{Desk, DeskClient};
+pub use fetching::{Fetched, fetch_image, images_are_read_back};
 pub use mirror::mirrors_stay;
 pub use others::{Others, SnapshotBoard};
 pub use patience::Patience;

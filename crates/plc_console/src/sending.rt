@@ -123,7 +123,7 @@ fn send_command<H: Wait + Copy, R: CountedRead, W: CountedWrite, O: CountedWrite
 
 /// Reads an answer: up to where what was read at once ends a line.
 #[tactic(auto, using(crate::proofs::Passing::unread_later))]
-fn read_answer<H: Wait + Copy, R: CountedRead>(
+pub(crate) fn read_answer<H: Wait + Copy, R: CountedRead>(
     host: &Host<H>,
     reader: &mut R,
 ) -> Result<Vec<u8>, Failed>

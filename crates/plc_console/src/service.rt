@@ -3,6 +3,7 @@
 ghost use Rattle.std.specs.Prelude.{None};
 
 use crate::desk::Desk;
+use crate::fetching::image_line;
 use crate::mirror::Mirror;
 use crate::room::{Parting, Room, Seat, Shown};
 use crate::session::{SessionEnd, Submits, Unanswered, serve_console};
@@ -55,6 +56,10 @@ impl<R: Wait + Clock + Copy + Drop, L: Link + Drop> Submits for Informed<R, L> {
             Question::Forces => forces_line(alloc, &self.mirror.save(alloc)?)?,
             Question::Breaks => breaks_line(alloc, &self.mirror.save(alloc)?)?,
             Question::Program => program_line(alloc, &self.mirror.save(alloc)?)?,
+            Question::Image => {
+                let snapshot = self.mirror.save(alloc)?;
+                image_line(alloc, snapshot.image.as_slice())?
+            }
             Question::Status => return self.shown.line(&rt, alloc),
         };
         Ok(line.into_bytes())

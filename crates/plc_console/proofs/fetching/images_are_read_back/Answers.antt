@@ -1,0 +1,5 @@
+use Rattle.plc_console.proofs.Fetching.{read_back}
+use Rattle.plc_console.proofs.fetching.images_are_read_back.Goals as goal
+
+pub returns : goal.returns
+returns c = read_back
