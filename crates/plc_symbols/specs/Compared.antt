@@ -1,11 +1,12 @@
 -- What a change from one program to another does to the names of both.
-use Rattle.std.specs.Prelude.{ℕ, Bool, true, false, List, [], ◌++◌, Option, None, Some, codes, find, if◌then◌else◌}
+use Rattle.std.specs.Prelude.{ℕ, Bool, true, false, List, [], ◌++◌, Option, None, Some, codes, bytes_eq, find, if◌then◌else◌}
 use Rattle.std.specs.List.{flat_map, list_any}
 use Rattle.il_model.specs.declared.program.Loc.{Loc}
 use Rattle.il_model.specs.declared.program.Variable.{Variable}
 use Rattle.il_model.specs.declared.program.Instance.{Instance}
 use Rattle.il_model.specs.Kinds.{kind_name}
 use Rattle.il_model.specs.Program.{Program}
+use Rattle.il_model.specs.Image.{spelling}
 use Rattle.il_lister.specs.Listing.{type_name}
 use Rattle.ctl_model.specs.State.{has_own}
 use Rattle.ctl_model.specs.Changes.{goes_on, goes_on_as}
@@ -77,9 +78,14 @@ abbrev pub ended_instance_line : List Instance → Instance → List ℕ
 ended_instance_line new x =
     if list_any (λ y. goes_on_as x y) new then [] else codes "ends     " ++ instance_text x ++ codes "\n"
 
--- all names of the new program, and then those of the old one that go on as none of it
+-- whether two programs are the same: their declarations, names and instructions, as the bytes of their images spell them
+abbrev pub verdict_text : Program → Program → List ℕ
+verdict_text Q R = if bytes_eq (spelling Q) (spelling R) then codes "same program\n" else codes "another program\n"
+
+-- that, all names of the new program, and then those of the old one that go on as none of it
 abbrev pub compared_text : Program → Program → List ℕ
-compared_text Q R = flat_map (variable_line Q.variables) R.variables
+compared_text Q R = verdict_text Q R
+    ++ flat_map (variable_line Q.variables) R.variables
     ++ flat_map (instance_line Q.instances) R.instances
     ++ flat_map (ended_line R.variables) Q.variables
     ++ flat_map (ended_instance_line R.instances) Q.instances

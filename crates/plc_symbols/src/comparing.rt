@@ -7,7 +7,7 @@ ghost use Rattle.ctl_model.specs.Changes.{goes_on, goes_on_as};
 ghost use Rattle.plc_symbols.specs.Compared.{at_place, variable_text, instance_text, source_of, source_of_instance};
 ghost use Rattle.plc_symbols.specs.Compared.{variable_line, instance_line, ended_line, ended_instance_line};
 ghost use Rattle.plc_symbols.specs.Compared.{retained_text, turned_text, was_retained, was_retained_instance};
-ghost use Rattle.plc_symbols.specs.Compared.{compared_text};
+ghost use Rattle.plc_symbols.specs.Compared.{compared_text, verdict_text};
 
 use crate::words::{name_of, place};
 use il_loader::Image;
@@ -268,12 +268,24 @@ fn lines_of_ended_instances(
     Ok(text)
 }
 
-/// What a change from one program to the other does to the names of both: a line for each name of the new one, and for
-/// each of the old one that goes on as none of it.
+/// Whether two programs are the same, by the bytes of their images.
+fn verdict(old: &Image, new: &Image) -> &'static [u8]
+    ensures { result.now ≡ verdict_text old.now new.now }
+{
+    if old.bytes() == new.bytes() {
+        b"same program\n"
+    } else {
+        b"another program\n"
+    }
+}
+
+/// What a change from one program to the other does: whether they are the same, a line for each name of the new one, and
+/// for each of the old one that goes on as none of it.
 pub fn compared(alloc: Global, old: &Image, new: &Image) -> Result<Vec<u8>, AllocError>
     ensures { IfOk result (λ text. text.items ≡ compared_text old.now new.now) }
 {
-    let mut text = lines(alloc, old.variables(), new.variables())?;
+    let mut text = Vec::from_slice(alloc, verdict(old, new))?;
+    text.extend_from_slice(lines(alloc, old.variables(), new.variables())?.as_slice())?;
     text.extend_from_slice(lines_of_instances(
         alloc,
         old.instances(),
