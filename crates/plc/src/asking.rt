@@ -23,7 +23,7 @@ use std::time::Duration;
 const REFUSED: u8 = 4;
 
 /// The status of lines of which one is no command of a console.
-const NO_COMMAND: u8 = 5;
+pub(crate) const NO_COMMAND: u8 = 5;
 
 /// Where a console is.
 #[derive(Drop)]
@@ -55,7 +55,7 @@ fn place_of(alloc: Global, named: plc_words::Place) -> Result<Place, AllocError>
 
 impl Console {
     /// The one that words name; or the status where its key isn't to be had, which is told.
-    fn of<E: CountedWrite>(
+    pub(crate) fn of<E: CountedWrite>(
         rt: &HostRuntime,
         asked: AskedConsole,
         err: &mut E,
@@ -77,7 +77,7 @@ impl Console {
     }
 
     /// So long an answer is waited for.
-    fn patience(&self) -> Duration {
+    pub(crate) fn patience(&self) -> Duration {
         Duration::from_secs(u64::from(self.timeout))
     }
 }
@@ -187,7 +187,7 @@ fn answered<O: CountedWrite, E: CountedWrite>(
 }
 
 /// Tells that no answer came, and answers the status.
-fn tell_unanswered<E: CountedWrite>(err: &mut E) -> u8 {
+pub(crate) fn tell_unanswered<E: CountedWrite>(err: &mut E) -> u8 {
     let _ = put(err, b"plc: device no answer\n");
     Fault::Device.status()
 }

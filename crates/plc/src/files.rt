@@ -10,8 +10,8 @@ use std::os::unix::fs::MetadataExt;
 /// The bits of a mode by which others than owner and group may do something.
 const OTHERS: u32 = 0o007;
 
-/// The word for standard input, where a file's path may stand.
-const STANDARD_INPUT: &str = "-";
+/// The word for standard input or standard output, where a file's path may stand.
+pub(crate) const STREAM: &str = "-";
 
 /// What a file holds.
 pub(crate) fn file(rt: &HostRuntime, path: &str) -> Result<Vec<u8>, Fault> {
@@ -20,7 +20,7 @@ pub(crate) fn file(rt: &HostRuntime, path: &str) -> Result<Vec<u8>, Fault> {
 
 /// What a file holds, or standard input.
 pub(crate) fn text_at(rt: &HostRuntime, path: &str) -> Result<Vec<u8>, Fault> {
-    if path != STANDARD_INPUT {
+    if path != STREAM {
         return file(rt, path);
     }
     let mut text = Vec::new(rt.alloc());

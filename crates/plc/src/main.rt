@@ -6,6 +6,7 @@ mod calls;
 mod carrying;
 mod directories;
 mod epochs;
+mod fetching;
 mod files;
 mod groups;
 mod keys;
@@ -24,6 +25,7 @@ ghost use Rattle.plc.specs.Asked.{IsAsAsked, IsLostAfterAMinute};
 use crate::asking::{Asking, ask};
 use crate::carrying::{Carrying, carried, mode_of};
 use crate::epochs::Entering;
+use crate::fetching::{Target, fetch};
 use crate::machines::{Machine, tell_unserved};
 use crate::operators::operators_of;
 use crate::serving::{Report, Serving, settled};
@@ -71,7 +73,7 @@ enum Outcome {
     Carry(Carrying),
 }
 
-/// Threads and sockets are used here alone.
+/// Threads are used here alone, and sockets here and where a program is fetched.
 fn main(rt: HostRuntime) -> ExitCode {
     let mut err = Counted::new(rt.stderr());
     if let Err(error) = hold_streams(&rt) {
@@ -190,7 +192,7 @@ fn hold_streams(rt: &HostRuntime) -> io::Result<()> {
     Ok(())
 }
 
-/// Does what the words of the call ask for, as far as no thread and no socket is needed.
+/// Does what the words of the call ask for, as far as no thread is needed, and no socket but to fetch a program.
 #[tactic(auto, using(crate::proofs::Minute::as_asked))]
 fn called<W: Write, E: CountedWrite>(rt: &HostRuntime, out: &mut W, err: &mut E) -> Outcome
     ensures { IsLostAfterAMinute result }
@@ -238,7 +240,7 @@ fn done<W: Write, E: CountedWrite>(
         Words::Asm { source, image } => calls::asm(rt, source, image, out, err),
         Words::List { image } => calls::list(rt, image, out, err),
         Words::Names { source } => calls::names(rt, source, out, err),
-        Words::Diff { old, new } => calls::diff(rt, old, new, out, err),
+        Words::Diff { old, new, fetching } => calls::diff(rt, old, new, fetching, out, err),
         Words::Where { source, asked } => calls::locate(rt, source, asked, out, err),
         Words::Run {
             source,
@@ -285,8 +287,8 @@ fn simulated<W: Write, E: CountedWrite>(
     }
 }
 
-/// Does what is done at once for words about the file of a group, or the store of a machine: the status; 0 where that
-/// is nothing.
+/// Does what is done at once for words about the file of a group, the store of a machine, or a program that is fetched:
+/// the status; 0 where that is nothing.
 fn kept<W: Write, E: CountedWrite>(
     rt: &HostRuntime,
     words: &Words,
@@ -315,6 +317,12 @@ fn kept<W: Write, E: CountedWrite>(
             is_changed,
             directory,
         } => stores::listing(rt, directory, is_changed, out, err),
+        Words::Fetch {
+            origin,
+            fetching,
+            file: path,
+            is_image,
+        } => fetch(rt, origin, fetching, Target { path, is_image }, out, err),
         _ => entered(rt, words, out, err),
     }
 }

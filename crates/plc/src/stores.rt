@@ -156,6 +156,15 @@ fn image_in(rt: &HostRuntime, directory: &str, is_changed: bool) -> Result<Vec<u
     }
 }
 
+/// The image of the program in force of a directory's store: the one to which it was changed in its epoch, if it was.
+pub(crate) fn image_in_force(rt: &HostRuntime, directory: &str) -> Result<Vec<u8>, Refusal> {
+    let directory = FileDirectory::look(*rt, rt.alloc(), directory)?;
+    match changed_in(rt.alloc(), &directory) {
+        Err(Refusal::NotChanged) => Ok(stored_in(rt.alloc(), &directory)?.image),
+        found => found,
+    }
+}
+
 /// Prints what came of a store: the status.
 pub(crate) fn print_lines<W: Write, E: CountedWrite>(
     lines: Result<String, Refusal>,

@@ -4,12 +4,12 @@ use crate::form::{Form, arg};
 use crate::forms::VERSION;
 use crate::help;
 use crate::options::{
-    CHANGE, CHECK, CONSOLE_SOCKET, CRASH, DIRECTORY, IDLE, LISTED, PERIOD, REPORT, SCANS, SOURCE,
-    STALE, TIMEOUT, asked_commands, budget, changed, changed_listing, console, console_key, count,
+    CHANGE, CHECK, CONSOLE_SOCKET, CRASH, DIRECTORY, IDLE, IMAGE, LISTED, PERIOD, REPORT, SCANS,
+    SOURCE, STALE, asked_commands, budget, changed, changed_listing, console, console_key, count,
     directory, epoch, every, failures, faults, field_status, file, flag, forget, formatted_group,
     formatted_source, hours, links, machine, made_store, new_group, new_key, next_epoch, once,
     place, port, position, schedule, seed, served_group, served_source, simulated_group, status,
-    stop, text, told, trace, until, wait,
+    stop, text, timeout, told, trace, until, wait,
 };
 use clap::{Arg, Command};
 use std::alloc::{AllocError, Global};
@@ -28,11 +28,12 @@ enum Named {
     Show,
     Serve,
     Ask,
+    Fetch,
     Field,
 }
 
 /// All commands, in the order in which help has them.
-const ALL: [Named; 12] = [
+const ALL: [Named; 13] = [
     Named::Asm,
     Named::List,
     Named::Names,
@@ -44,6 +45,7 @@ const ALL: [Named; 12] = [
     Named::Show,
     Named::Serve,
     Named::Ask,
+    Named::Fetch,
     Named::Field,
 ];
 
@@ -102,6 +104,7 @@ fn word_of<'a>(named: Named) -> &'a str {
         Named::Show => "show",
         Named::Serve => "serve",
         Named::Ask => "ask",
+        Named::Fetch => "fetch",
         Named::Field => "field",
     }
 }
@@ -112,7 +115,7 @@ fn about<'a>(named: Named) -> &'a str {
         Named::List => "Prints the listing of an image",
         Named::Names => "Prints a program's names with their places and Modbus addresses, as CSV",
         Named::Diff =>
-            "Prints what goes on by its name where a plant changes from one program to another",
+            "Prints whether two programs are the same, and what goes on by its name from one to the other",
         Named::Where =>
             "Prints at which line and in which instance the instruction of a position stands",
         Named::Run => "Runs a program over a file of commands, and prints one answer a line",
@@ -124,6 +127,7 @@ fn about<'a>(named: Named) -> &'a str {
         Named::Serve =>
             "Runs a program on replicas in threads, and serves it to Modbus clients; or one machine of a group",
         Named::Ask => "Sends commands, or another program, to the console of a served controller",
+        Named::Fetch => "Writes the program of a served controller, or of a store, to a file",
         Named::Field => "Carries inputs and outputs between Modbus devices and a served controller",
     }
 }
@@ -141,6 +145,7 @@ fn help_of<'a>(named: Named) -> &'a str {
         Named::Show => help::SHOWING,
         Named::Serve => help::SERVING,
         Named::Ask => help::ASKING,
+        Named::Fetch => help::FETCHING,
         Named::Field => help::FIELD,
     }
 }
@@ -165,6 +170,7 @@ fn put_args<'a>(alloc: Global, named: Named, args: &mut Vec<Arg<'a>>) -> Result<
         Named::Show => put_all(alloc, args, &show_forms()),
         Named::Serve => put_served(alloc, args),
         Named::Ask => put_all(alloc, args, &ask_forms()),
+        Named::Fetch => put_all(alloc, args, &fetch_forms()),
         Named::Field => put_all(alloc, args, &field_forms()),
     }
 }
@@ -190,10 +196,12 @@ fn list_forms() -> [Form; 1] {
     [file("IMAGE").help("The image, as asm writes it")]
 }
 
-fn diff_forms() -> [Form; 2] {
+fn diff_forms() -> [Form; 4] {
     [
-        file("OLD").help("The text of the program that runs"),
-        file("NEW").help("The text of the program to go on with"),
+        file("OLD").help("The program that runs: its text, a console, or a store"),
+        file("NEW").help("The program to go on with, likewise"),
+        console_key(),
+        timeout(),
     ]
 }
 
@@ -305,9 +313,18 @@ fn ask_forms() -> [Form; 5] {
         asked_commands(),
         text(CHANGE, SOURCE).help("The text of the program to go on with, in place of COMMANDS"),
         console_key(),
-        count(TIMEOUT, "S")
-            .default_value("60")
-            .help("Seconds until an answer is given up"),
+        timeout(),
+    ]
+}
+
+/// From where a program is fetched, and to where.
+fn fetch_forms() -> [Form; 5] {
+    [
+        file("FROM").help("The console of what runs it, the directory of a store, or its text"),
+        file("FILE").help("The file for the listing; - is standard output"),
+        flag(IMAGE).help("Writes the image, as asm does, in place of the listing"),
+        console_key(),
+        timeout(),
     ]
 }
 

@@ -1,4 +1,4 @@
-//! A console that is to be asked, as words name it.
+//! A console that is to be asked, and where a program is, as words name them.
 
 use std::net::SocketAddr;
 
@@ -21,6 +21,24 @@ pub struct AskedConsole<'a> {
     pub key: Option<&'a str>,
 }
 
+/// Where a program is.
+#[derive(Clone, Copy, Debug, PartialEq, Eq)]
+pub enum Origin<'a> {
+    /// In the controller whose console is at this address and port.
+    Console(SocketAddr),
+    /// At this path: the directory of a store, the socket of a console, or the file of a text.
+    Path(&'a str),
+}
+
+/// How a console is asked for a program.
+#[derive(Clone, Copy, Debug, PartialEq, Eq)]
+pub struct Fetching<'a> {
+    /// In seconds, from 1: so long an answer is waited for.
+    pub timeout: u32,
+    /// The file whose first line it's told first, if it asks for a key.
+    pub key: Option<&'a str>,
+}
+
 /// Where a word says that a console is: a port of 127.0.0.1, an address with a port, or a path with a `/`.
 pub(crate) fn place_of(word: &str) -> Option<Place<'_>> {
     if word.contains('/') {
@@ -34,4 +52,12 @@ pub(crate) fn place_of(word: &str) -> Option<Place<'_>> {
         return None;
     }
     Some(Place::Address(address))
+}
+
+/// Where a word says that a program is: at a port of 127.0.0.1, at an address with a port, or at a path.
+pub(crate) fn origin_of(word: &str) -> Origin<'_> {
+    match place_of(word) {
+        Some(Place::Address(address)) => Origin::Console(address),
+        _ => Origin::Path(word),
+    }
 }

@@ -4,12 +4,12 @@ ghost use Rattle.std.specs.Prelude.{◌≡◌, IfOk, IfSome};
 ghost use Rattle.plc_words.specs.Asked.{IsLostAfterAMinute};
 
 use crate::commands::program;
-use crate::console::{AskedConsole, place_of};
+use crate::console::{AskedConsole, Fetching, Origin, origin_of, place_of};
 use crate::error::WordsError;
 use crate::operators::OperatorsAt;
 use crate::options::{
     BUDGET, CHANGE, CHANGED, CHECK, CONSOLE, CONSOLE_KEY, CONSOLE_SOCKET, CRASH, DIRECTORY, EPOCH,
-    EVERY, FAILURES, FAULTS, FORGET, GROUP, HOURS, IDLE, LINKS, LISTED, MACHINE, NEW_GROUP,
+    EVERY, FAILURES, FAULTS, FORGET, GROUP, HOURS, IDLE, IMAGE, LINKS, LISTED, MACHINE, NEW_GROUP,
     NEW_KEY, NEXT_EPOCH, ONCE, PERIOD, PLACE, PORT, POSITION, REPORT, SCANS, SEED, STALE, STATUS,
     STOP, STORE, TCP, TIMEOUT, TRACE, UNTIL, WAIT,
 };
@@ -71,10 +71,11 @@ pub enum Words<'a> {
     Names {
         source: &'a str,
     },
-    /// Prints what a change from one program to another does to their names.
+    /// Prints whether two programs are the same, and what a change from one to the other does to their names.
     Diff {
-        old: &'a str,
-        new: &'a str,
+        old: Origin<'a>,
+        new: Origin<'a>,
+        fetching: Fetching<'a>,
     },
     /// Prints where the instructions of a program stand in its text.
     Where {
@@ -170,6 +171,14 @@ pub enum Words<'a> {
     Ask {
         console: AskedConsole<'a>,
         commands: &'a str,
+    },
+    /// Writes the program that is somewhere to a file, or to standard output.
+    Fetch {
+        origin: Origin<'a>,
+        fetching: Fetching<'a>,
+        file: &'a str,
+        /// Whether it's the image that is written, and not the listing.
+        is_image: bool,
     },
     /// Carries inputs and outputs of the field of a file.
     Field {
@@ -383,6 +392,7 @@ fn worked<'a>(name: &str, inner: &ArgMatches<'a>) -> Option<Words<'a>>
         "run" => run(inner),
         "format" => formatted(inner),
         "show" => shown(inner),
+        "fetch" => fetched(inner),
         _ => None,
     }
 }
@@ -416,8 +426,28 @@ fn compared<'a>(inner: &ArgMatches<'a>) -> Option<Words<'a>>
     ensures { IfSome result IsLostAfterAMinute }
 {
     Some(Words::Diff {
-        old: inner.get_str("OLD")?,
-        new: inner.get_str("NEW")?,
+        old: origin_of(inner.get_str("OLD")?),
+        new: origin_of(inner.get_str("NEW")?),
+        fetching: fetching(inner)?,
+    })
+}
+
+/// How a console is asked, where a program is to be had of one.
+fn fetching<'a>(inner: &ArgMatches<'a>) -> Option<Fetching<'a>> {
+    Some(Fetching {
+        timeout: inner.get_one::<u32>(TIMEOUT)?,
+        key: inner.get_str(CONSOLE_KEY),
+    })
+}
+
+fn fetched<'a>(inner: &ArgMatches<'a>) -> Option<Words<'a>>
+    ensures { IfSome result IsLostAfterAMinute }
+{
+    Some(Words::Fetch {
+        origin: origin_of(inner.get_str("FROM")?),
+        fetching: fetching(inner)?,
+        file: inner.get_str("FILE")?,
+        is_image: inner.get_flag(IMAGE),
     })
 }
 

@@ -107,13 +107,17 @@ with the address there.
 );
 
 pub(crate) const DIFFERENCE: &str = with_source_faults!(
-    "Prints a line for each variable and instance of NEW, and for each of OLD that ends:
+    "Each of OLD and NEW is the text of a program; or where one is had from, as with 'plc fetch': a port, an
+address, a socket, or the directory of a store. Prints 'same program' where both have the same declarations
+and instructions, whatever comments and blanks their texts have, else 'another program'; then a line for
+each variable and instance of NEW, and for each of OLD that ends:
   goes on   it keeps its value: OLD has one of that name and type (an instance: of that kind)
   begins    it starts at its initial value
   at place  it lies at a place, which keeps its value
   ends      OLD's alone: its value is lost
-So a plant that runs OLD goes on with NEW after 'plc ask --change'. OLD is judged first; before a fault of a
-text the line 'in PATH' says of which one.
+So a plant that runs OLD goes on with NEW after 'plc ask --change': 'plc diff 5021 SOURCE' tells it before.
+OLD is judged first; before a fault of a text the line 'in PATH' says of which one. What is told of a
+console or a store that gives no program, 'plc fetch --help' has.
 "
 );
 
@@ -250,6 +254,7 @@ sends it, ends the session. The questions:
   \"forces\"                   tells what lies over which location
   \"breaks\"                   tells the instructions before which scans are held
   \"program\"                  tells how many bytes the image in force has, and their SHA-256
+  \"image\"                    tells these bytes, two digits each; 'plc fetch' asks for it
   \"status\"                   tells how many scans there were, how many replicas are normal, and what
                              the last scan was held or stopped by
 Four clients are served at once. For anything but \"status\" one of them takes the console over once a
@@ -321,6 +326,32 @@ The status is 0 where each command was done or answered what it asked for, 4 whe
   plc: device socket PATH    nobody serves a console at the socket
   plc: device no answer      another client took it over, or it ended, or gave no answer for S
                              seconds, before each was answered
+"
+);
+
+pub(crate) const FETCHING: &str = with_source_faults!(
+    "FROM says where the program is:
+  P                          a console at this port of 127.0.0.1 ('plc serve --console P')
+  ADDR:P                     a console at this address, as 'console' of a group's file
+  DIR                        the store of a machine, in this directory
+  PATH                       a console at this socket; of any other file the text of a program
+Of a console it's the program in force, also after a change; of a store the one to which it was changed in
+its epoch, or the one with which that began.
+
+FILE is made, with the listing as 'plc list' prints it, which assembles to the same image; comments and units
+are no part of an image. With --image it's the image.
+A console that is asked is taken over: another client of it is told so. With --console-key FILE the first
+line of that FILE is sent first, for a console that asks for a key.
+
+Nothing is written where the status isn't 0. It's 5, and the line is the console's, where an answer began with
+'plc: '. Further:
+  plc: file there FILE       FILE is there: it's never written over
+  plc: device port P         nobody serves a console at the port
+  plc: device socket PATH    nobody serves a console at the socket
+  plc: device no answer      another client took it over, or it ended, or gave no answer for S seconds
+  plc: device write FILE     FILE can't be made
+  plc: load N                what the console answered is no image
+  plc: store WHY             as with 'plc show'
 "
 );
 

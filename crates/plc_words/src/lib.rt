@@ -26,7 +26,7 @@ mod options;
 mod places;
 mod telling;
 
-pub use console::{AskedConsole, Place};
+pub use console::{AskedConsole, Fetching, Origin, Place};
 pub use error::WordsError;
 pub use forms::{EpochProgram, VERSION, Words, read_words};
 pub use operators::OperatorsAt;

@@ -54,6 +54,9 @@ pub(crate) const CHANGE: &str = "change";
 /// The word of the option `--timeout`.
 pub(crate) const TIMEOUT: &str = "timeout";
 
+/// The word of the option `--image`.
+pub(crate) const IMAGE: &str = "image";
+
 /// The word of the option `--status`.
 pub(crate) const STATUS: &str = "status";
 
@@ -399,6 +402,13 @@ pub(crate) fn console() -> Form {
 
 pub(crate) fn console_key() -> Form {
     text(CONSOLE_KEY, "FILE").help("The file of the word that the console asks for first")
+}
+
+/// So long a console that is asked may take.
+pub(crate) fn timeout() -> Form {
+    count(TIMEOUT, "S")
+        .default_value("60")
+        .help("Seconds until an answer is given up")
 }
 
 pub(crate) fn status() -> Form {

@@ -1,7 +1,7 @@
 //! What the words of a call ask for, as lines.
 
 use plc_settings::Settings;
-use plc_words::{AskedConsole, OperatorsAt, Words, read_words};
+use plc_words::{AskedConsole, Fetching, OperatorsAt, Words, read_words};
 use std::alloc::{AllocError, Global};
 
 /// What the words of a line ask for; `no call` where they ask for nothing.
@@ -116,7 +116,21 @@ fn of_files(alloc: Global, words: &Words) -> Result<String, AllocError> {
         Words::Asm { source, image } => format!(in alloc; "asm {source}, image {image}"),
         Words::List { image } => format!(in alloc; "list {image}"),
         Words::Names { source } => format!(in alloc; "names {source}"),
-        Words::Diff { old, new } => format!(in alloc; "diff {old}, new {new}"),
+        Words::Diff { old, new, fetching } => {
+            let Fetching { timeout, key } = fetching;
+            format!(in alloc; "diff {old:?}, new {new:?}, timeout {timeout}, key {key:?}")
+        }
+        Words::Fetch {
+            origin,
+            fetching,
+            file,
+            is_image,
+        } => {
+            let Fetching { timeout, key } = fetching;
+            format!(in alloc;
+                "fetch {origin:?} to {file}, image {is_image}, timeout {timeout}, key {key:?}"
+            )
+        }
         Words::Where { source, asked } => format!(in alloc; "where {source}, {asked:?}"),
         Words::Run {
             source,
