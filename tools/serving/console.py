@@ -5,9 +5,11 @@ import socket
 import time
 
 from controller import PATIENCE, Served, came_true, ended, free_port, is_closed, is_written, reply_to, request, take
+from files import content
 
 # Counts up %IW0: 32767 stops it at instruction 1, and 2 is behind the sum.
 SOURCE = 'LD %IW0\nADD 1\nST %QW0\n'
+LISTING = 'VAR\nEND_VAR\nLD %IW0\nADD INT#1\nST %QW0\n'
 
 # What it's changed to. Of its instructions four are performed; behind them come so many more that its image has 60 kB.
 SECOND = 'VAR_GLOBAL N : INT := 10; END_VAR\nLD N\nADD 1\nST %QW0\nRET\n' + 15000 * 'LD N\n'
@@ -257,5 +259,61 @@ def a_deaf_operator_is_let_go(plc, work):
     return right
 
 
+def kept_at(work, name, text):
+    path = os.path.join(work, name)
+    with open(path, 'w') as file:
+        file.write(text)
+    return path
+
+
+def is_all_so(rows):
+    """Whether each call came out as it should."""
+    for what, got, wanted in rows:
+        if got != wanted:
+            print(f'  {what}: {str(got)[:200]}, and not {str(wanted)[:200]}')
+            return False
+    return True
+
+
+def a_program_is_fetched(plc, work):
+    """The program in force comes back, as its listing and as its image, also behind a change; it's compared with texts.
+    A file that's there isn't written over, and where nobody serves a console none is made."""
+    console, image, listing = free_port(), os.path.join(work, 'got.image'), os.path.join(work, 'got.il')
+    source = kept_at(work, 'at_hand.il', SOURCE.replace('1', '(* one *) 1'))
+    second, nobody = kept_at(work, 'second.il', SECOND), free_port()
+    same, changed = 'same program\n', 'another program\nbegins   N : INT\n'
+    with Served(plc, work, '--period', 50, '--console', console, source=SOURCE) as served:
+        right = served.serves() and is_all_so([
+            ('listing', ended(plc, 'fetch', console, '-'), (0, LISTING, '')),
+            ('same', ended(plc, 'diff', source, f'127.0.0.1:{console}'), (0, same, '')),
+            ('before', ended(plc, 'diff', console, second), (0, changed, '')),
+            ('change', ended(plc, 'ask', console, '--change', second), (0, 'done\n', '')),
+            ('behind', ended(plc, 'diff', console, second), (0, same + 'goes on  N : INT\n', '')),
+            ('back', ended(plc, 'diff', console, source), (0, 'another program\nends     N : INT\n', '')),
+            ('image', ended(plc, 'fetch', '--image', console, image), (0, '', '')),
+            ('file', ended(plc, 'fetch', console, listing), (0, '', '')),
+            ('there', ended(plc, 'fetch', console, listing), (1, '', f'plc: file there {listing}\n')),
+            ('the same', ended(plc, 'diff', listing, second), (0, same + 'goes on  N : INT\n', '')),
+            ('its listing', ended(plc, 'list', image)[1].encode(), content(listing)),
+            ('nobody', ended(plc, 'fetch', nobody, 'none.il', cwd=work), (2, '', f'plc: device port {nobody}\n')),
+            ('no file', os.path.exists(os.path.join(work, 'none.il')), False)])
+        right = right and content(image).hex() == image_of(plc, work, SECOND)
+        return right and not any('crashed' in line for line in served.lines)
+
+
+def a_key_is_wanted_for_a_program(plc, work):
+    """A console at a socket, which asks for a key, gives its program to who tells that."""
+    place, key = os.path.join(work, 'console'), kept_at(work, 'key', 'open-sesame\n')
+    wrong = kept_at(work, 'wrong', 'sesame-open\n')
+    os.chmod(key, 0o600)
+    os.chmod(wrong, 0o600)
+    with Served(plc, work, '--period', 50, '--console-socket', place, '--console-key', key, source=SOURCE) as served:
+        right = served.serves() and came_true(lambda: os.path.exists(place))
+        return right and is_all_so([
+            ('key', ended(plc, 'fetch', place, '-', '--console-key', key), (0, LISTING, '')),
+            ('none', ended(plc, 'fetch', place, '-'), (5, '', 'plc: key\n')),
+            ('wrong', ended(plc, 'fetch', place, '-', '--console-key', wrong), (5, '', 'plc: key\n'))])
+
+
 GATE = [an_operator_is_answered, an_operator_is_answered_over_crashes, no_commands_are_refused, an_operator_gives_way,
-        a_deaf_operator_is_let_go]
+        a_deaf_operator_is_let_go, a_program_is_fetched, a_key_is_wanted_for_a_program]

@@ -309,6 +309,16 @@ def epochs_are_entered_by_hand(plc, work):
     return all([entered_by_hand(plant, told, *line) for line in tables])
 
 
+def is_fetched(plc, path, said, wanted):
+    """Whether the program in force is fetched of a store: the one to which it was changed, else its own."""
+    status, out, err = ended(plc, 'fetch', path, '-')
+    got = (status, err.strip()) if status else (0, ', '.join(out.splitlines()))
+    if said == 'not changed':
+        status, out, err = ended(plc, 'show', '--listing', path)
+        wanted = (status, err.strip()) if status else (0, ', '.join(out.splitlines()))
+    return got == wanted or differs('fetch of a store, ' + said, wanted, got)
+
+
 def changed_programs_are_had(plc, work):
     """The program to which a store's was changed is listed, and begins the next epoch where that is asked; or why
     there's none."""
@@ -319,6 +329,7 @@ def changed_programs_are_had(plc, work):
         got = shows(plant, files, '--listing', '--changed')
         right = (got == wanted or differs(words, wanted, got)) and right
         path = plant.directory(files)
+        right = is_fetched(plc, path, said, wanted) and right
         status, out, err = ended(plc, 'format', '--next-epoch', '--changed', '--group', plant.file, '--store', path)
         if said == 'IPL':
             got, wanted = (status, out, left(path)[184:-32]), (0, 'epoch 2\n', plant.images[2])
