@@ -20,4 +20,5 @@ returns-clause-shown c log =
       refl,
       refl,
       refl,
+      refl,
     )
