@@ -1,7 +1,6 @@
 //! The calls that read files, print what comes of them on standard output, and end.
 
-use crate::fetching::text_from;
-use crate::files::{are_same, file, put_path, refuse, tell_misfit, tell_of, tell_unwritten};
+use crate::files::{are_same, file, refuse, tell_misfit, tell_of, tell_unwritten};
 use il_model::Budget;
 use il_places::Asked;
 use il_text::{Fault, put, tell};
@@ -10,9 +9,7 @@ use io_model::{Counted, CountedWrite};
 use plc_host::Failed;
 use plc_json::Listed;
 use plc_serve::tell_failed;
-use plc_symbols::Which;
 use plc_tool::{Group, first_fault};
-use plc_words::{Fetching, Origin};
 use std::io::Write;
 
 /// The lines of a file that is no list of commands, and of one that is no schedule.
@@ -140,55 +137,6 @@ pub(crate) fn names<W: Write, E: CountedWrite>(
         &mut counted,
         &mut Counted::new(&mut told),
     );
-    let failures = counted.faults();
-    ended(status, failures, told.as_slice(), out, err)
-}
-
-/// Prints whether two programs are the same, and what a change from one to the other does to their names: the status.
-pub(crate) fn diff<W: Write, E: CountedWrite>(
-    rt: &HostRuntime,
-    old: Origin,
-    new: Origin,
-    fetching: Fetching,
-    out: &mut W,
-    err: &mut E,
-) -> u8 {
-    let before = match text_from(rt, old, fetching, err) {
-        Ok(text) => text,
-        Err(status) => return status,
-    };
-    let after = match text_from(rt, new, fetching, err) {
-        Ok(text) => text,
-        Err(status) => return status,
-    };
-    let (before, after) = (before.as_slice(), after.as_slice());
-    match plc_symbols::first_fault(rt.alloc(), before, after) {
-        None | Some((_, Fault::Memory)) => {}
-        Some((Which::Old, _)) => put_origin(old, err),
-        Some((Which::New, _)) => put_origin(new, err),
-    }
-    compare(rt, before, after, out, err)
-}
-
-/// Tells where the text is whose fault follows; the listing of a console's program has none.
-fn put_origin<E: CountedWrite>(origin: Origin, err: &mut E) {
-    if let Origin::Path(path) = origin {
-        put_path(b"in ", path, err);
-    }
-}
-
-/// Prints whether the programs of two texts are the same, and what a change does to their names: the status.
-fn compare<W: Write, E: CountedWrite>(
-    rt: &HostRuntime,
-    before: &[u8],
-    after: &[u8],
-    out: &mut W,
-    err: &mut E,
-) -> u8 {
-    let mut counted = Counted::new(&mut *out);
-    let mut told = Vec::new(rt.alloc());
-    let mut telling = Counted::new(&mut told);
-    let status = plc_symbols::compare(rt.alloc(), before, after, &mut counted, &mut telling);
     let failures = counted.faults();
     ended(status, failures, told.as_slice(), out, err)
 }

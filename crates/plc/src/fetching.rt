@@ -1,4 +1,7 @@
-//! Programs that are fetched: from a console, from a store, or from a text.
+//! Programs that are wanted: of a console, of a store, or of a text; and where one is written.
+
+ghost use Rattle.std.specs.Prelude.{◌≡◌, IfOk, string_bytes};
+ghost use Rattle.plc.specs.Asked.{IsConsole, IsFound, IsRequest, IsWanted};
 
 use crate::asking::{Console, NO_COMMAND, Place, tell_unanswered};
 use crate::calls::flushed;
@@ -11,123 +14,83 @@ use plc_console::{Fetched, fetch_image, send_key};
 use plc_host::{Failed, Host};
 use plc_serve::tell_failed;
 use plc_words::{AskedConsole, Fetching, Origin};
+use std::alloc::Global;
 use std::fs;
 use std::io::Write;
-use std::net::TcpStream;
+use std::net::{Net, TcpListener, TcpStream};
 use std::os::unix::fs::FileTypeExt;
 use std::os::unix::net::UnixStream;
 use std::sync::Wait;
 
-/// Where a program that was fetched is written, and as what.
-#[derive(Clone, Copy)]
-pub(crate) struct Target<'a> {
-    pub(crate) path: &'a str,
-    /// Whether it's the image that is written, and not the listing.
-    pub(crate) is_image: bool,
-}
-
-/// A program, as it was found.
+/// A program that is wanted.
 #[derive(Drop)]
-enum Found {
+pub(crate) enum Wanted {
+    /// That of this text.
     Text(Vec<u8>),
+    /// That of this image.
     Image(Vec<u8>),
+    /// That which the controller runs whose console this is.
+    Asked(Console),
 }
 
-/// Writes the program that is somewhere to a file that isn't there yet, or on standard output: the status.
-pub(crate) fn fetch<W: Write, E: CountedWrite>(
-    rt: &HostRuntime,
-    origin: Origin,
-    fetching: Fetching,
-    target: Target,
-    out: &mut W,
-    err: &mut E,
-) -> u8 {
-    if target.path != STREAM && fs::metadata(rt, target.path).is_ok() {
-        put_path(b"plc: file there ", target.path, err);
-        return Fault::Commands.status();
-    }
-    match fetched(rt, origin, fetching, target.is_image, err) {
-        Ok(bytes) => write_to(rt, bytes.as_slice(), target.path, out, err),
-        Err(status) => status,
-    }
-}
-
-/// The listing of the program that is somewhere, or its image; or the status where it isn't to be had, which is told.
-fn fetched<E: CountedWrite>(
-    rt: &HostRuntime,
-    origin: Origin,
-    fetching: Fetching,
-    is_image: bool,
-    err: &mut E,
-) -> Result<Vec<u8>, u8> {
-    let image = match found_at(rt, origin, fetching, err)? {
-        Found::Image(image) => image,
-        Found::Text(text) => match image_bytes(rt.alloc(), text.as_slice()) {
-            Ok(image) => image,
-            Err(fault) => return Err(tell(fault, err)),
-        },
-    };
-    let listing = listing_of(rt, image.as_slice(), err)?;
-    Ok(if is_image { image } else { listing })
-}
-
-/// The text of the program that is somewhere, which is a listing where an image was found; or the status where it isn't
-/// to be had, which is told.
-pub(crate) fn text_from<E: CountedWrite>(
-    rt: &HostRuntime,
-    origin: Origin,
-    fetching: Fetching,
-    err: &mut E,
-) -> Result<Vec<u8>, u8> {
-    match found_at(rt, origin, fetching, err)? {
-        Found::Text(text) => Ok(text),
-        Found::Image(image) => listing_of(rt, image.as_slice(), err),
-    }
-}
-
-/// The listing of an image; or the status where the bytes are none, which is told.
-fn listing_of<E: CountedWrite>(rt: &HostRuntime, image: &[u8], err: &mut E) -> Result<Vec<u8>, u8> {
-    let (mut text, mut told) = (Vec::new(rt.alloc()), Vec::new(rt.alloc()));
-    let mut counted = Counted::new(&mut text);
-    let mut telling = Counted::new(&mut told);
-    let status = plc_tool::list(rt.alloc(), image, &mut counted, &mut telling);
-    // A vector fails to take bytes only where memory runs out.
-    if counted.faults() > 0 || (status != 0 && told.is_empty()) {
-        return Err(tell(Fault::Memory, err));
-    }
-    if status != 0 {
-        let _ = put(err, told.as_slice());
-        return Err(status);
-    }
-    Ok(text)
-}
-
-/// The program that is somewhere; or the status where there is none, which is told.
-fn found_at<E: CountedWrite>(
-    rt: &HostRuntime,
-    origin: Origin,
-    fetching: Fetching,
-    err: &mut E,
-) -> Result<Found, u8> {
-    let path = match origin {
-        Origin::Console(address) => {
-            let place = plc_words::Place::Address(address);
-            return Ok(Found::Image(image_asked(rt, place, fetching, err)?));
+impl Wanted {
+    /// The program of an origin; or the status where there is none, which is told. No console is asked yet.
+    pub(crate) fn of<E: CountedWrite>(
+        rt: &HostRuntime,
+        origin: Origin,
+        fetching: Fetching,
+        err: &mut E,
+    ) -> Result<Wanted, u8>
+        ensures { IfOk result (IsWanted origin.entry fetching.entry) }
+    {
+        match origin {
+            Origin::Console(address) => {
+                let place = plc_words::Place::Address(address);
+                Ok(Wanted::Asked(console_of(rt, place, fetching, err)?))
+            }
+            Origin::Path(path) if is_socket(rt, path) => {
+                let place = plc_words::Place::Socket(path);
+                Ok(Wanted::Asked(console_of(rt, place, fetching, err)?))
+            }
+            Origin::Path(path) => wanted_at(rt, path, err),
         }
-        Origin::Path(path) => path,
+    }
+}
+
+/// The console at a place.
+fn console_of<E: CountedWrite>(
+    rt: &HostRuntime,
+    place: plc_words::Place,
+    fetching: Fetching,
+    err: &mut E,
+) -> Result<Console, u8>
+    ensures { IfOk result (IsConsole (record {
+      place = place.entry;
+      timeout = fetching.entry.timeout;
+      key = fetching.entry.key;
+    })) }
+{
+    let Fetching { timeout, key } = fetching;
+    let asked = AskedConsole {
+        place,
+        timeout,
+        key,
     };
+    Console::of(rt, asked, err)
+}
+
+/// The program of a directory's store, or of the text of a file; or the status where there is none, which is told.
+fn wanted_at<E: CountedWrite>(rt: &HostRuntime, path: &str, err: &mut E) -> Result<Wanted, u8>
+    ensures { IfOk result IsFound }
+{
     if is_directory(rt, path) {
         return match image_in_force(rt, path) {
-            Ok(image) => Ok(Found::Image(image)),
+            Ok(image) => Ok(Wanted::Image(image)),
             Err(refusal) => Err(tell_at(path, refusal, err)),
         };
     }
-    if is_socket(rt, path) {
-        let place = plc_words::Place::Socket(path);
-        return Ok(Found::Image(image_asked(rt, place, fetching, err)?));
-    }
     match file(rt, path) {
-        Ok(text) => Ok(Found::Text(text)),
+        Ok(text) => Ok(Wanted::Text(text)),
         Err(fault) => Err(tell_of(path, fault, err)),
     }
 }
@@ -146,34 +109,150 @@ fn is_socket(rt: &HostRuntime, path: &str) -> bool {
     }
 }
 
-/// The image of the program in force, which the console of a controller is asked for; or the status where it isn't to be
-/// had, which is told.
-fn image_asked<E: CountedWrite>(
+/// Where a program is written, and as what.
+#[derive(Clone, Copy)]
+pub(crate) struct Target<'a> {
+    /// A file that isn't there yet; or standard output.
+    pub(crate) path: &'a str,
+    /// Whether it's the image that is written, and not the listing.
+    pub(crate) is_image: bool,
+}
+
+/// A program that is to be fetched.
+#[derive(Drop)]
+pub(crate) struct Request {
+    pub(crate) wanted: Wanted,
+    pub(crate) path: String,
+    pub(crate) is_image: bool,
+}
+
+impl Request {
+    /// The program of an origin, for this target; or the status where that is a file that's there, or there is no such
+    /// program, which is told.
+    pub(crate) fn of<E: CountedWrite>(
+        rt: &HostRuntime,
+        origin: Origin,
+        fetching: Fetching,
+        target: Target,
+        err: &mut E,
+    ) -> Result<Request, u8>
+        ensures { IfOk result (IsRequest origin.entry fetching.entry target.path.now target.is_image) }
+    {
+        let Target { path, is_image } = target;
+        if path != STREAM && fs::metadata(rt, path).is_ok() {
+            put_path(b"plc: file there ", path, err);
+            return Err(Fault::Commands.status());
+        }
+        let Ok(own) = String::from_str(rt.alloc(), path) else {
+            return Err(tell(Fault::Memory, err));
+        };
+        let wanted = Wanted::of(rt, origin, fetching, err)?;
+        Ok(Request {
+            wanted,
+            path: own,
+            is_image,
+        })
+    }
+}
+
+/// Writes a program that is to be fetched: the status.
+pub(crate) fn fetch<R, W: Write, E: CountedWrite>(
     rt: &HostRuntime,
-    place: plc_words::Place,
-    fetching: Fetching,
+    host: &Host<R>,
+    request: Request,
+    out: &mut W,
     err: &mut E,
-) -> Result<Vec<u8>, u8> {
-    let Fetching { timeout, key } = fetching;
-    let asked = AskedConsole {
-        place,
-        timeout,
-        key,
+) -> u8
+where
+    R: Wait + Net<Listener = TcpListener, Stream = TcpStream> + Copy,
+{
+    let Request {
+        wanted,
+        path,
+        is_image,
+    } = request;
+    match fetched(host, wanted, is_image, err) {
+        Ok(bytes) => write_to(rt, bytes.as_slice(), path.as_str(), out, err),
+        Err(status) => status,
+    }
+}
+
+/// The listing of a program that is wanted, or its image; or the status where it isn't to be had, which is told.
+fn fetched<R, E: CountedWrite>(
+    host: &Host<R>,
+    wanted: Wanted,
+    is_image: bool,
+    err: &mut E,
+) -> Result<Vec<u8>, u8>
+where
+    R: Wait + Net<Listener = TcpListener, Stream = TcpStream> + Copy,
+{
+    let image = match wanted {
+        Wanted::Image(image) => image,
+        Wanted::Asked(console) => image_asked(host, &console, err)?,
+        Wanted::Text(text) => match image_bytes(host.alloc, text.as_slice()) {
+            Ok(image) => image,
+            Err(fault) => return Err(tell(fault, err)),
+        },
     };
-    let console = Console::of(rt, asked, err)?;
-    let host = Host {
-        rt: *rt,
-        alloc: rt.alloc(),
+    let listing = listing_of(host.alloc, image.as_slice(), err)?;
+    Ok(if is_image { image } else { listing })
+}
+
+/// The text of a program that is wanted, or its listing where it's an image; or the status where it isn't to be had,
+/// which is told.
+pub(crate) fn text_of<R, E: CountedWrite>(
+    host: &Host<R>,
+    wanted: Wanted,
+    err: &mut E,
+) -> Result<Vec<u8>, u8>
+where
+    R: Wait + Net<Listener = TcpListener, Stream = TcpStream> + Copy,
+{
+    let image = match wanted {
+        Wanted::Text(text) => return Ok(text),
+        Wanted::Image(image) => image,
+        Wanted::Asked(console) => image_asked(host, &console, err)?,
     };
+    listing_of(host.alloc, image.as_slice(), err)
+}
+
+/// The listing of an image; or the status where the bytes are none, which is told.
+fn listing_of<E: CountedWrite>(alloc: Global, image: &[u8], err: &mut E) -> Result<Vec<u8>, u8> {
+    let (mut text, mut told) = (Vec::new(alloc), Vec::new(alloc));
+    let mut counted = Counted::new(&mut text);
+    let mut telling = Counted::new(&mut told);
+    let status = plc_tool::list(alloc, image, &mut counted, &mut telling);
+    // A vector fails to take bytes only where memory runs out.
+    if counted.faults() > 0 || (status != 0 && told.is_empty()) {
+        return Err(tell(Fault::Memory, err));
+    }
+    if status != 0 {
+        let _ = put(err, told.as_slice());
+        return Err(status);
+    }
+    Ok(text)
+}
+
+/// The image of the program that a controller runs, which its console is asked for; or the status where it isn't to be
+/// had, which is told.
+fn image_asked<R, E: CountedWrite>(
+    host: &Host<R>,
+    console: &Console,
+    err: &mut E,
+) -> Result<Vec<u8>, u8>
+where
+    R: Wait + Net<Listener = TcpListener, Stream = TcpStream> + Copy,
+{
     match &console.place {
         Place::Address(address) => {
-            match TcpStream::connect_timeout(rt, address, console.patience()) {
-                Ok(stream) => image_answered(fetch_at_port(&host, &stream, &console), err),
+            match TcpStream::connect_timeout(&host.rt, address, console.patience()) {
+                Ok(stream) => image_answered(fetch_at_port(host, &stream, console), err),
                 Err(_) => Err(tell_failed(Failed::Port(address.port()), err)),
             }
         }
-        Place::Socket(path) => match UnixStream::connect(rt, path.as_str()) {
-            Ok(stream) => image_answered(fetch_at_socket(&host, &stream, &console), err),
+        Place::Socket(path) => match UnixStream::connect(&host.rt, path.as_str()) {
+            Ok(stream) => image_answered(fetch_at_socket(host, &stream, console), err),
             Err(_) => Err(tell_path(b"plc: device socket ", path.as_str(), err)),
         },
     }

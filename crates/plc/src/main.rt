@@ -4,6 +4,7 @@
 mod asking;
 mod calls;
 mod carrying;
+mod comparing;
 mod directories;
 mod epochs;
 mod fetching;
@@ -24,8 +25,9 @@ ghost use Rattle.plc.specs.Asked.{IsAsAsked, IsLostAfterAMinute};
 
 use crate::asking::{Asking, ask};
 use crate::carrying::{Carrying, carried, mode_of};
+use crate::comparing::{Comparison, compare};
 use crate::epochs::Entering;
-use crate::fetching::{Target, fetch};
+use crate::fetching::{Request, Target, fetch};
 use crate::machines::{Machine, tell_unserved};
 use crate::operators::operators_of;
 use crate::serving::{Report, Serving, settled};
@@ -71,9 +73,13 @@ enum Outcome {
     ServeMachine(Machine),
     /// The inputs and outputs of a field are to be carried.
     Carry(Carrying),
+    /// A program is to be fetched.
+    Fetch(Request),
+    /// Two programs are to be compared.
+    Compare(Comparison),
 }
 
-/// Threads are used here alone, and sockets here and where a program is fetched.
+/// Threads and sockets are used here alone.
 fn main(rt: HostRuntime) -> ExitCode {
     let mut err = Counted::new(rt.stderr());
     if let Err(error) = hold_streams(&rt) {
@@ -87,6 +93,8 @@ fn main(rt: HostRuntime) -> ExitCode {
     let status = match called(&rt, &mut out, &mut err) {
         Outcome::Done(status) => status,
         Outcome::Ask(asking) => ask(&host, &asking, &mut Counted::new(rt.stdout()), &mut err),
+        Outcome::Fetch(request) => fetch(&rt, &host, request, &mut out, &mut err),
+        Outcome::Compare(comparison) => compare(&host, comparison, &mut out, &mut err),
         Outcome::Serve(Serving { service, report }) => {
             let (lines, relay) = match told_by(&rt, rt.alloc(), rt.stderr()) {
                 Ok(told) => told,
@@ -192,7 +200,7 @@ fn hold_streams(rt: &HostRuntime) -> io::Result<()> {
     Ok(())
 }
 
-/// Does what the words of the call ask for, as far as no thread is needed, and no socket but to fetch a program.
+/// Does what the words of the call ask for, as far as no thread and no socket is needed.
 #[tactic(auto, using(crate::proofs::Minute::as_asked))]
 fn called<W: Write, E: CountedWrite>(rt: &HostRuntime, out: &mut W, err: &mut E) -> Outcome
     ensures { IsLostAfterAMinute result }
@@ -240,7 +248,6 @@ fn done<W: Write, E: CountedWrite>(
         Words::Asm { source, image } => calls::asm(rt, source, image, out, err),
         Words::List { image } => calls::list(rt, image, out, err),
         Words::Names { source } => calls::names(rt, source, out, err),
-        Words::Diff { old, new, fetching } => calls::diff(rt, old, new, fetching, out, err),
         Words::Where { source, asked } => calls::locate(rt, source, asked, out, err),
         Words::Run {
             source,
@@ -287,8 +294,8 @@ fn simulated<W: Write, E: CountedWrite>(
     }
 }
 
-/// Does what is done at once for words about the file of a group, the store of a machine, or a program that is fetched:
-/// the status; 0 where that is nothing.
+/// Does what is done at once for words about the file of a group, or the store of a machine: the status; 0 where that
+/// is nothing.
 fn kept<W: Write, E: CountedWrite>(
     rt: &HostRuntime,
     words: &Words,
@@ -317,12 +324,6 @@ fn kept<W: Write, E: CountedWrite>(
             is_changed,
             directory,
         } => stores::listing(rt, directory, is_changed, out, err),
-        Words::Fetch {
-            origin,
-            fetching,
-            file: path,
-            is_image,
-        } => fetch(rt, origin, fetching, Target { path, is_image }, out, err),
         _ => entered(rt, words, out, err),
     }
 }
@@ -379,6 +380,18 @@ fn prepared<E: CountedWrite>(
         }
         Words::Change { console, source } => {
             Outcome::Ask(Asking::of_change(rt, console, source, err)?)
+        }
+        Words::Fetch {
+            origin,
+            fetching,
+            file: path,
+            is_image,
+        } => {
+            let target = Target { path, is_image };
+            Outcome::Fetch(Request::of(rt, origin, fetching, target, err)?)
+        }
+        Words::Diff { old, new, fetching } => {
+            Outcome::Compare(Comparison::of(rt, old, new, fetching, err)?)
         }
         Words::ServeMachine {
             group,
