@@ -4,4 +4,4 @@ mod Keys
 mod Sessions
 mod Passing
 mod Mirrors
-mod Fetching
+mod ReadBack

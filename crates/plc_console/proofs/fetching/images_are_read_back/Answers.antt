@@ -1,4 +1,4 @@
-use Rattle.plc_console.proofs.Fetching.{read_back}
+use Rattle.plc_console.proofs.ReadBack.{read_back}
 use Rattle.plc_console.proofs.fetching.images_are_read_back.Goals as goal
 
 pub returns : goal.returns
