@@ -180,7 +180,7 @@ then none until all is well, and again. Their kinds, of which more than one may 
   disk-lost               beside power: where all lose it, a machine may get an empty disk
 With --trace a line is printed for each thing that happens: its step, microseconds since the beginning, the
 machine, what it is, and a number, as a view. At the end a line says what was seen:
-  seed 7 ran 3600000 ms in 4471820 steps: 3 machines, 36012 scans, 35987 releases as the table says,
+  seed 7 ran 3600000 ms in 5716487 steps: 3 machines, 35998 scans, 35998 releases as the table says,
   0 faults, 0 takeovers within 0 ms, 0 cold starts within 0 ms, epoch 1
 The first thing that is otherwise ends the run: 'plc: seed 7 step 81234 ' is reported with 'two histories',
 'unseen', 'inputs fell back', 'moment fell back', 'moment jumped', 'other output', 'read went back', 'slow

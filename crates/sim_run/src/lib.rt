@@ -7,7 +7,7 @@
 //! let kinds = Kinds::none().with_word("crash")?; // which faults come: none, all, or those of some words
 //! let run = Run { seed: 7, hours: 1, steps: None, is_traced: false, kinds };
 //! let status = simulate(alloc, text, &group, &run, &mut out, &mut err);
-//! // 0, and `out` ends with: seed 7 ran 3600000 ms in 4471820 steps: 3 machines, 36012 scans, ..
+//! // 0, and `out` ends with: seed 7 ran 3600000 ms in 5716487 steps: 3 machines, 35998 scans, ..
 //! ```
 //!
 //! Or step by step: `World::new`, `begin`, `go_on` until some time, and `summary` says what was seen so far.
