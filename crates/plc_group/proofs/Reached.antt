@@ -18,6 +18,9 @@ at_replica i = At (Some i) keys.Replica WithoutKey
 abbrev at_each : (Machine → Bool) → ℕ → Machine → List Fault
 at_each p i machine = if p machine then at_replica i ∷ [] else []
 
+here : {A : Type 0} (p : A → Bool) (x : A) (xs : List A) → p x ≡ true → position p (x ∷ xs) ≡ Some 0
+here p x xs passes = grind (arith, passes)
+
 later : {A : Type 0} (p : A → Bool) (x : A) (xs : List A) → p x ≡ false → position p (x ∷ xs) ≡ option_map (λ n. 1 + n) (position p xs)
 later p x xs fails = grind (arith, fails)
 
@@ -28,7 +31,10 @@ further i (Some n) = let e : i + 1 + n ≡ i + (1 + n) = omega arith in ap (λ k
 first_from : (p : Machine → Bool) (i : ℕ) (ms : List Machine) → first (from (at_each p) i ms) ≡ option_map (λ n. at_replica (i + n)) (position p ms)
 first_from p i [] = refl
 first_from p i (m ∷ ms) = elim (cases_Bool (p m)) [
-  | inl passes ↦ let e : i ≡ i + 0 = omega arith in rw passes (ap (λ k. Some (at_replica k)) e)
+  | inl passes ↦
+      let on : first (from (at_each p) i (m ∷ ms)) ≡ Some (at_replica i) = rw passes refl in
+      let same : i ≡ i + 0 = omega arith in
+      on ∙ ap (λ k. Some (at_replica k)) same ∙ ap (option_map (λ n. at_replica (i + n))) (sym (here p m ms passes))
   | inr fails ↦
       let on : first (from (at_each p) i (m ∷ ms)) ≡ first (from (at_each p) (i + 1) ms) = rw fails refl in
       on ∙ first_from p (i + 1) ms ∙ further i (position p ms) ∙ ap (option_map (λ n. at_replica (i + n))) (sym (later p m ms fails))
@@ -51,4 +57,4 @@ pub replicas_are : (table : Members) (file : Option (String Global)) (insecure :
     → value_at path_of keys.KeyFile table ≡ option_map string_bytes file → insecure ≡ unwrap_or (value_at as_bool keys.Insecure table) false
     → machines_said table ≡ Some machines → replicas_faults table ≡ all_exposed_faults (is_some file || insecure) machines
 replicas_are table None insecure machines k i m = rw (k, sym i, m) refl
-replicas_are table (Some f) insecure machines k i m = rw (k, m) refl
+replicas_are table (Some f) insecure machines k i m = rw k refl

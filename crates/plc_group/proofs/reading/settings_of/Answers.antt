@@ -3,11 +3,23 @@ use Rattle.toml.specs.Data.{as_bool}
 use Rattle.toml.specs.View.{table_view}
 use Rattle.plc_group.specs.Faults.{IsFirst, key_faults, settings_faults, times_faults, wanted_faults}
 use Rattle.plc_group.specs.Said.{SaysSettings}
-use Rattle.plc_group.specs.Values.{cold_start_of, console_key_of, path_of, number_or}
-use Rattle.plc_group.specs.declared.key.TheConstants.{PERIODS}
+use Rattle.plc_group.specs.Values.{cold_start_of, console_key_of, number_in, number_or, path_of}
+use Rattle.plc_group.specs.declared.key.TheConstants.{DISTANCES, PERIODS}
 use Rattle.plc_group.specs.declared.key.Key.TheVariants as keys
 use Rattle.plc_group.proofs.Firsts.{handed, told_front}
 use Rattle.plc_group.proofs.reading.settings_of.Goals as goal
+
+pub returns-in_err-every : goal.returns-in_err-every
+returns-in_err-every c =
+    let table = table_view c.args.table.now in
+    let e = c.in_err-every.field-0.0 in
+    let more = times_faults (number_or 100 PERIODS keys.Period table) table
+    ++ (wanted_faults cold_start_of None keys.ColdStart table
+    ++ (wanted_faults console_key_of None keys.ConsoleKey table
+    ++ (wanted_faults path_of None keys.ConsoleSockets table ++ key_faults table))) in
+    handed (settings_faults table) (SaysSettings table) c.from_residual-in_err-every.result e c.from_residual-in_err-every.ensures.1
+    (rw (c.in_ok-name.ensures.0, c.in_ok-period.ensures.judged.0, c.in_ok-instructions.ensures.judged.0)
+    (told_front (wanted_faults (number_in DISTANCES) None keys.Every table) more e c.in_err-every.ensures.judged))
 
 pub returns-in_err-times : goal.returns-in_err-times
 returns-in_err-times c =
