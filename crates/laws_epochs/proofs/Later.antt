@@ -1,0 +1,84 @@
+-- Which epoch is later, as an order, and stores that go on.
+use Rattle.std.proofs.Common.{◌≡◌, ℕ, Bool, true, false, List, ◌∷◌, Option, Some, None, Ok, refl, sym, ap, ◌∙◌, subst, inl, inr, eqb}
+use Rattle.std.proofs.lemmas.Bool.{false≢true, and_parts, eqb-true}
+use Rattle.std.specs.Cmp.{IsTotalOrder}
+use Rattle.std.specs.Cmp.Lexicographic.{slice_cmp, on_texts, bytes_decides}
+use Rattle.std.specs.Ordering.{is_gt, nat_cmp, on, ordering_reverse, ordering_then}
+use Rattle.std.specs.declared.cmp.Ordering.{Ordering}
+use Rattle.std.specs.declared.cmp.Ordering.TheVariants.{Less, Equal, Greater}
+use Rattle.net_hello.specs.declared.hello.Epoch.{Epoch}
+use Rattle.plc_epochs.specs.declared.kept.Kept.{Kept}
+use Rattle.plc_epochs.specs.declared.kept.Kept.TheVariants as keeps
+use Rattle.plc_epochs.specs.Epochs.{by_hand, entered_by_hand, is_later, is_later_by, is_same, next_epoch}
+use Rattle.plc_epochs.specs.GoingOn.{GoesOn}
+use Rattle.plc_epochs.proofs.GoingOn.{behind_is_later}
+use Rattle.laws_epochs.specs.Beginnings.{HasCome, IsNoEarlier}
+
+abbrev key : Epoch → List ℕ
+key e = e.number ∷ e.image
+
+abbrev compared : Epoch → Epoch → Ordering
+compared a b = slice_cmp nat_cmp (key a) (key b)
+
+by_key : (o : Ordering) (x y : List ℕ) → is_later_by o x y ≡ is_gt (ordering_then o (slice_cmp nat_cmp x y))
+by_key Less x y = refl
+by_key Equal x y = refl
+by_key Greater x y = refl
+
+greater : (r : Ordering) → is_gt r ≡ true → r ≡ Greater
+greater Less h = absurd (false≢true h)
+greater Equal h = absurd (false≢true h)
+greater Greater h = refl
+
+ordered : IsTotalOrder (on key (slice_cmp nat_cmp))
+ordered = on_texts key
+
+below : (a b : Epoch) → is_later a b ≡ true → compared b a ≡ Less
+below a b h =
+    let g : compared a b ≡ Greater = greater (compared a b) (sym (by_key (nat_cmp a.number b.number) a.image b.image) ∙ h) in
+    ordered.antisymm b a ∙ ap ordering_reverse g
+
+later_chain : (a b c : Epoch) → is_later a b ≡ true → is_later b c ≡ true → is_later a c ≡ true
+later_chain a b c h g =
+    let l : compared c a ≡ Less = ordered.trans c b a (below b c g) (below a b h) in
+    by_key (nat_cmp a.number c.number) a.image c.image ∙ ap is_gt (ordered.antisymm a c ∙ ap ordering_reverse l)
+
+pub no_earlier_chain : (a b c : Epoch) → IsNoEarlier a b → IsNoEarlier b c → IsNoEarlier a c
+no_earlier_chain a b c (inl e) h = subst (λ x. IsNoEarlier x c) (sym e) h
+no_earlier_chain a b c (inr l) (inl e) = inr (subst (λ x. is_later a x ≡ true) e l)
+no_earlier_chain a b c (inr l) (inr m) = inr (later_chain a b c l m)
+
+pub come_on : (k l : Kept) (epoch : Epoch) → GoesOn k l → HasCome epoch k → HasCome epoch l
+come_on keeps.Nothing l epoch g h = absurd h
+come_on (keeps.Above above) l epoch g h = absurd h
+come_on (keeps.Entered own) keeps.Nothing epoch g h = absurd g
+come_on (keeps.Entered own) (keeps.Above above) epoch g h = absurd g
+come_on (keeps.Entered own) (keeps.Entered other) epoch g h = no_earlier_chain other own epoch g h
+come_on (keeps.Entered own) (keeps.Begun other) epoch g h = no_earlier_chain other own epoch (inl g) h
+come_on (keeps.Begun own) keeps.Nothing epoch g h = absurd g
+come_on (keeps.Begun own) (keeps.Above above) epoch g h = absurd g
+come_on (keeps.Begun own) (keeps.Entered other) epoch g h = no_earlier_chain other own epoch (inr g) h
+come_on (keeps.Begun own) (keeps.Begun other) epoch g h = no_earlier_chain other own epoch (inl g) h
+
+-- ---- by hand
+
+entered_on : (own epoch : Epoch) (image : List ℕ) (o : Option Epoch) (has : Kept) → next_epoch own image ≡ o → entered_by_hand o ≡ Ok has → IsNoEarlier own epoch → HasCome epoch has
+entered_on own epoch image None has is h k = absurd cc
+entered_on own epoch image (Some next) has is h k =
+    let e : keeps.Entered next ≡ has = cc in
+    subst (λ x. HasCome epoch x) e (no_earlier_chain next own epoch (inr (behind_is_later own next image true is)) k)
+
+pub hand_on : (k has : Kept) (epoch : Epoch) (image : List ℕ) → by_hand k image ≡ Ok has → HasCome epoch k → HasCome epoch has
+hand_on keeps.Nothing has epoch image h k = absurd k
+hand_on (keeps.Above above) has epoch image h k = absurd k
+hand_on (keeps.Entered own) has epoch image h k = entered_on own epoch image (next_epoch own image) has refl h k
+hand_on (keeps.Begun own) has epoch image h k = entered_on own epoch image (next_epoch own image) has refl h k
+
+-- ---- one epoch
+
+pub same_epoch : (x y : Epoch) → is_same x y ≡ true → x ≡ y
+same_epoch x y h =
+    let parts = and_parts _ _ h in
+    let number : x.number ≡ y.number = eqb-true x.number y.number parts.0 in
+    let image : x.image ≡ y.image = (bytes_decides x.image y.image).0 parts.1 in
+    λ i. record { number = number i; image = image i }

@@ -1,0 +1,4 @@
+pub mod Later
+pub mod Changes
+pub mod Standing
+pub mod Beginning

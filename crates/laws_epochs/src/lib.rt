@@ -1,0 +1,75 @@
+//! The epochs of a group of machines: laws over what all of its machines do, each by the table of `plc_epochs`. There
+//! is no code here: each function's clause states a law, and its empty body is proved to meet it.
+//!
+//! ```rust
+//! laws_epochs::epochs_begin_behind_a_majority(); // for whoever's clause rests on it
+//! ```
+//!
+//! The machines' moves stand in one order (`specs/Machines`): starts of processes, steps by the table, hellos, writes to
+//! stores, ends of processes at any moment, and operators who begin the next epoch by hand. Proved of any such moves:
+//!
+//! - A machine begins an epoch only behind a majority that has come to it for good: as it begins, f+1 machines have that
+//!   epoch in their stores, or a later one, and whatever comes, none of them takes part in an epoch before it again
+//!   (`epochs_begin_behind_a_majority`, `specs/Beginnings`).
+//! - No machine goes back: once its store has an epoch, or it has said hello in it, its store never has an earlier one
+//!   again, and it takes part in none (`machines_never_go_back`).
+//! - Machines that begin one epoch have one image (`beginners_have_one_image`).
+//! - A machine that is marked neither freezes nor asks, whatever it's told (`marked_machines_never_freeze`).
+//!
+//! Premises: a store is found as it was left, and belongs to one machine alone; no disk is lost; each hello that a
+//! machine accepts was said before, by the machine that it names, in the epoch that it names. Of all other words nothing
+//! is presupposed: they may be forged. No time is, and no replica.
+//!
+//! Only tested, or argued: that f+1 machines are frozen at one moment where one of them gives an epoch up by itself, and
+//! that a machine whose disk was lost waits above each epoch in which it took part.
+#![tactic(auto)]
+
+ghost use Rattle.std.specs.Prelude.{◌≡◌, ℕ, true, Some, List, [], ◌∷◌, ◌++◌, slice_get};
+ghost use Rattle.net_hello.specs.declared.hello.Epoch.{Epoch};
+ghost use Rattle.plc_epochs.specs.declared.kept.Kept.{Kept};
+ghost use Rattle.plc_epochs.specs.declared.cold_start.ColdStart.{ColdStart};
+ghost use Rattle.plc_epochs.specs.declared.cold_start.Step.TheVariants.{Begins};
+ghost use Rattle.plc_epochs.specs.Table as table;
+ghost use Rattle.laws_epochs.specs.Machines.{Move, Takes, TimeHasPassed, AreMoves, after_moves, at_rest};
+ghost use Rattle.laws_epochs.specs.Beginnings.{HasCome, IsPast, MajorityIsPast, IsUnfrozen};
+
+/// A machine begins an epoch only once f+1 machines have come to that epoch, and have left all before it for good. So an
+/// epoch before has no majority any more, however it was given up, by evidence or by hand, and none comes back to it.
+pub fn epochs_begin_behind_a_majority()
+    ensures { (f machine now : ℕ) (stores : ℕ → Kept) (early : List Move) (epoch : Epoch) (becomes : ColdStart)
+        → AreMoves f (at_rest stores) (early ++ Takes machine (TimeHasPassed now) (Begins epoch) becomes ∷ [])
+        → MajorityIsPast f stores early (Takes machine (TimeHasPassed now) (Begins epoch) becomes) epoch }
+{
+    plc_epochs::no_store_goes_back();
+}
+
+/// No machine goes back: where its store has an epoch, or a later one, it has so whatever comes behind, and never takes
+/// part in an epoch before it. It's so of each epoch in which it said hello.
+pub fn machines_never_go_back()
+    ensures goes_on { (f i : ℕ) (stores : ℕ → Kept) (early late : List Move) (epoch : Epoch)
+        → AreMoves f (at_rest stores) (early ++ late)
+        → HasCome epoch ((after_moves f (at_rest stores) early).at i).store
+        → IsPast epoch ((after_moves f (at_rest stores) (early ++ late)).at i) }
+    ensures said { (f i place : ℕ) (stores : ℕ → Kept) (moves : List Move) (epoch : Epoch)
+        → AreMoves f (at_rest stores) moves
+        → slice_get (after_moves f (at_rest stores) moves).hellos place ≡ Some (i, epoch)
+        → HasCome epoch ((after_moves f (at_rest stores) moves).at i).store }
+{
+    plc_epochs::no_store_goes_back();
+}
+
+/// Machines that begin one epoch have one image in force, up to its sum.
+pub fn beginners_have_one_image()
+    ensures { (now later : ℕ) (epoch : Epoch) (a b c d : ColdStart) → table.Looks now a (Begins epoch) b
+        → table.Looks later c (Begins epoch) d → a.image ≡ c.image }
+{}
+
+/// A machine that is marked isn't frozen at any moment, whatever it's told. So it's never one of those by whom an epoch is
+/// given up, and it gives up none.
+pub fn marked_machines_never_freeze()
+    ensures { (f i : ℕ) (stores : ℕ → Kept) (moves : List Move) (a : ColdStart) → AreMoves f (at_rest stores) moves
+        → ((after_moves f (at_rest stores) moves).at i).runs ≡ Some a → a.place.is_marked ≡ true
+        → IsUnfrozen a.phase }
+{
+    plc_epochs::no_store_goes_back();
+}
