@@ -1,26 +1,25 @@
 -- As a machine begins an epoch, f+1 have come to it.
-use Rattle.std.proofs.Common.{◌≡◌, ◌⊎◌, ℕ, zero, suc, ◌+◌, ◌<◌, ◌≤◌, Bool, true, false, cond, not, ◌&&◌, ◌||◌, List, [], ◌∷◌, ◌++◌, Option, Some, None, refl, sym, ap, ◌∙◌, subst, inl, inr, is_some, eqb, leb, arith, fold}
-use Rattle.std.specs.Prelude.{count_by, slice_get, if◌then◌else◌, bytes_eq}
-use Rattle.std.proofs.lemmas.Bool.{false≢true, and_parts, leb-true, cases_Bool, or_cases, eqb-true, eq-eqb}
+use Rattle.std.proofs.Common.{◌≡◌, ℕ, zero, suc, ◌+◌, ◌<◌, ◌≤◌, Bool, true, false, cond, ◌||◌, List, [], ◌∷◌, ◌++◌, Option, Some, None, refl, sym, ap, ◌∙◌, subst, inl, inr, is_some, eqb, arith, fold}
+use Rattle.std.specs.Prelude.{count_by}
+use Rattle.std.proofs.lemmas.Bool.{false≢true, and_parts, leb-true, or_cases, eqb-true, eq-eqb}
 use Rattle.std.specs.Cmp.Lexicographic.{bytes_decides}
 use Rattle.vr_model.specs.Groups.{group_size, how_many}
 use Rattle.laws_history.proofs.Committed.{one_more}
 use Rattle.net_hello.specs.declared.hello.Epoch.{Epoch}
-use Rattle.plc_epochs.specs.Recovering as recovering
 use Rattle.plc_epochs.specs.Recovering.{thawed}
 use Rattle.plc_epochs.specs.Table
 use Rattle.plc_epochs.specs.declared.kept.Kept.{Kept}
 use Rattle.plc_epochs.specs.declared.recovery.Recovery.{Recovery}
 use Rattle.plc_epochs.specs.declared.cold_start.ColdStart.{ColdStart}
 use Rattle.plc_epochs.specs.declared.cold_start.Phase.{Phase}
-use Rattle.plc_epochs.specs.declared.cold_start.Phase.TheVariants.{Waiting, Above, Entering, Entered, Beginning, TakingPart, Recovering}
+use Rattle.plc_epochs.specs.declared.cold_start.Phase.TheVariants.{Entered, Recovering}
 use Rattle.plc_epochs.specs.declared.cold_start.Step.{Step}
 use Rattle.plc_epochs.specs.declared.cold_start.Step.TheVariants as steps
 use Rattle.plc_epochs.proofs.GoingOn.{either}
 use Rattle.laws_epochs.specs.Machines.{Move, Takes, TimeHasPassed, Machines, AreMoves, after_moves, at_rest}
-use Rattle.laws_epochs.specs.Beginnings.{HasCome, IsPast, MajorityIsPast}
+use Rattle.laws_epochs.specs.Beginnings.{HasCome, MajorityIsPast}
 use Rattle.laws_epochs.proofs.Changes.{has_heard, WasHeard}
-use Rattle.laws_epochs.proofs.Standing.{GoingOn, Fine, Stands, first, over, split, never_back}
+use Rattle.laws_epochs.proofs.Standing.{GoingOn, Stands, first, over, split, never_back}
 
 -- ---- counting
 

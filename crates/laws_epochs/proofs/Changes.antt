@@ -5,7 +5,7 @@ use Rattle.std.proofs.lemmas.Bool.{false≢true, and_parts}
 use Rattle.net_hello.specs.declared.hello.Epoch.{Epoch}
 use Rattle.plc_epochs.specs.Epochs.{is_later, is_recent_of, is_same, nothing_told}
 use Rattle.plc_epochs.specs.Recovering as recovering
-use Rattle.plc_epochs.specs.Recovering.{is_frozen_long, next_nonce, recovering_anew, recovers_long, thawed}
+use Rattle.plc_epochs.specs.Recovering.{is_frozen_long, next_nonce, recovering_anew, thawed}
 use Rattle.plc_epochs.specs.Table
 use Rattle.plc_epochs.specs.Table.{greeting_in, is_other, leaving}
 use Rattle.plc_epochs.specs.declared.kept.Kept.{Kept}
@@ -15,7 +15,7 @@ use Rattle.plc_epochs.specs.declared.word.Word.{Word}
 use Rattle.plc_epochs.specs.declared.word.Word.TheVariants.{Freeze, Frozen, Confirm, StillFrozen, Marked}
 use Rattle.plc_epochs.specs.declared.cold_start.ColdStart.{ColdStart}
 use Rattle.plc_epochs.specs.declared.cold_start.Greeting.{Greeting}
-use Rattle.plc_epochs.specs.declared.cold_start.Greeting.TheVariants.{Silence, Waits, Hello}
+use Rattle.plc_epochs.specs.declared.cold_start.Greeting.TheVariants.{Silence, Hello}
 use Rattle.plc_epochs.specs.declared.cold_start.Phase.{Phase}
 use Rattle.plc_epochs.specs.declared.cold_start.Phase.TheVariants.{Waiting, Above, Entering, Entered, Beginning, TakingPart, Recovering}
 use Rattle.plc_epochs.specs.declared.cold_start.Place.{Place}
@@ -74,10 +74,20 @@ abbrev pub IsToldBy : Telling → Place → Epoch → ℕ → Type 0
 IsToldBy (HelloCame from epoch now place) own e j = (from ≡ j) × (epoch ≡ e) × (is_other own from ≡ true)
 IsToldBy telling own e j = ⊥
 
+-- it has entered this epoch; it begins this epoch
+abbrev pub IsEntered : Epoch → Phase → Type 0
+IsEntered e (Entered own heard) = own ≡ e
+IsEntered e phase = ⊥
+
+abbrev pub IsBeginning : Epoch → Phase → Type 0
+IsBeginning e (Beginning own) = own ≡ e
+IsBeginning e phase = ⊥
+
 pub record Changes (telling : Telling) (store : Kept) (own : Place) (p q : Phase) : Type 0 where
   pub greets : (e : Epoch) → greeting_in q ≡ Hello e → (greeting_in p ≡ Hello e) ⊎ HasCome e store
   pub heard : (e : Epoch) (j : ℕ) → WasHeard q e j → WasHeard p e j ⊎ IsToldBy telling own e j
   pub unfrozen : own.is_marked ≡ true → IsUnfrozen p → IsUnfrozen q
+  pub begins : (e : Epoch) → IsBeginning e q → IsBeginning e p ⊎ IsEntered e p
 
 pub record Done (telling : Telling) (store : Kept) (a b : ColdStart) : Type 0 where
   pub place : b.place ≡ a.place
@@ -89,7 +99,7 @@ frozen_or None = None
 
 module _ (telling : Telling) (store : Kept) where
   same : (own : Place) (p : Phase) → Changes telling store own p p
-  same own p = record { greets = λ e h. inl h; heard = λ e j h. inl h; unfrozen = λ m u. u }
+  same own p = record { greets = λ e h. inl h; heard = λ e j h. inl h; unfrozen = λ m u. u; begins = λ e h. inl h }
 
   to : (p q : Phase) (a b : ColdStart) → a.phase ≡ p → b.place ≡ a.place → b.phase ≡ q → Changes telling store a.place p q → Done telling store a b
   to p q a b was place is k = record {
@@ -110,14 +120,16 @@ module _ (telling : Telling) (store : Kept) where
       → ((j : ℕ) → has_heard heard j ≡ true → (e : Epoch) → epoch ≡ e → IsToldBy telling a.place e j) → Done telling store a b
   leaves p epoch heard a b was e told =
       to p (Entering epoch heard) a b was (ap (λ (x : ColdStart). x.place) e) (ap (λ (x : ColdStart). x.phase) e)
-      (record { greets = λ e h. absurd (no_hello Silence e refl h); heard = λ e j h. inr (told j h.1 e h.0); unfrozen = λ m u. tt })
+      (record { greets = λ e h. absurd (no_hello Silence e refl h); heard = λ e j h. inr (told j h.1 e h.0); unfrozen = λ m u. tt; begins = λ e h. absurd h })
 
   -- in one epoch, where none is heard behind it
-  within : (own : Place) (p q : Phase) → greeting_in q ≡ greeting_in p → ((e : Epoch) (j : ℕ) → WasHeard q e j → ⊥) → (own.is_marked ≡ true → IsUnfrozen p → IsUnfrozen q) → Changes telling store own p q
-  within own p q greets heard unfrozen = record { greets = λ e h. inl (sym greets ∙ h); heard = λ e j h. absurd (heard e j h); unfrozen = unfrozen }
+  within : (own : Place) (p q : Phase) → greeting_in q ≡ greeting_in p → ((e : Epoch) (j : ℕ) → WasHeard q e j → ⊥) → (own.is_marked ≡ true → IsUnfrozen p → IsUnfrozen q)
+      → ((e : Epoch) → IsBeginning e q → IsBeginning e p ⊎ IsEntered e p) → Changes telling store own p q
+  within own p q greets heard unfrozen begins =
+      record { greets = λ e h. inl (sym greets ∙ h); heard = λ e j h. absurd (heard e j h); unfrozen = unfrozen; begins = begins }
 
   recovers_on : (own : Place) (epoch : Epoch) (r s : Recovery) → (own.is_marked ≡ true → r.frozen ≡ None → s.frozen ≡ None) → Changes telling store own (Recovering epoch r) (Recovering epoch s)
-  recovers_on own epoch r s unfrozen = within own (Recovering epoch r) (Recovering epoch s) refl (λ e j h. h) unfrozen
+  recovers_on own epoch r s unfrozen = within own (Recovering epoch r) (Recovering epoch s) refl (λ e j h. h) unfrozen (λ e h. absurd h)
 
   -- ---- Time
 
@@ -147,7 +159,7 @@ module _ (telling : Telling) (store : Kept) where
   looks now (Entering epoch heard) a b step was h = stays a b h.1
   looks now (Entered epoch heard) a b step was h =
       either (Table.may_begin a epoch heard) _ _ _ h
-      (λ e g. moves (Entered epoch heard) (Beginning epoch) a b was g.1 (within a.place (Entered epoch heard) (Beginning epoch) refl (λ e j h. h) (λ m u. tt)))
+      (λ e g. moves (Entered epoch heard) (Beginning epoch) a b was g.1 (within a.place (Entered epoch heard) (Beginning epoch) refl (λ e j h. h) (λ m u. tt) (λ e h. inr h)))
       (λ e s. stays a b s.1)
   looks now (Beginning epoch) a b step was h = stays a b h.1
   looks now (TakingPart epoch) a b step was h = stays a b h.1
@@ -209,7 +221,7 @@ module _ (telling : Telling) (store : Kept) where
   -- ---- Its replica has recovered
 
   recovers_by : (t : Bool) (epoch : Epoch) (r : Recovery) (own : Place) → Changes telling store own (Recovering epoch r) (Table.recovered_if t epoch (Recovering epoch r))
-  recovers_by true epoch r own = within own (Recovering epoch r) (TakingPart epoch) refl (λ e j h. h) (λ m u. tt)
+  recovers_by true epoch r own = within own (Recovering epoch r) (TakingPart epoch) refl (λ e j h. h) (λ m u. tt) (λ e h. absurd h)
   recovers_by false epoch r own = same own (Recovering epoch r)
 
   recovered : (p : Phase) (own : Place) → Changes telling store own p (Table.recovered_in p)
@@ -230,7 +242,7 @@ stores_entered epoch heard (keeps.Begun has) a b step was h = stays StoreHas _ a
 stores_entered epoch heard (keeps.Entered has) a b step was h =
     either (is_same has epoch) _ _ _ h
     (λ e g. moves StoreHas (keeps.Entered has) (Entering epoch heard) (Entered epoch heard) a b was g.1
-    (record { greets = λ o k. inr (inl (same_epoch has epoch e ∙ ap (epoch_in epoch) k)); heard = λ o j k. inl k; unfrozen = λ m u. tt }))
+    (record { greets = λ o k. inr (inl (same_epoch has epoch e ∙ ap (epoch_in epoch) k)); heard = λ o j k. inl k; unfrozen = λ m u. tt; begins = λ o k. absurd k }))
     (λ e s. stays StoreHas _ a b s.1)
 
 stores_begun : (epoch : Epoch) (has : Kept) (a b : ColdStart) (step : Step) → a.phase ≡ Beginning epoch → Table.StoresBegun epoch has a step b → Done StoreHas has a b
@@ -239,7 +251,7 @@ stores_begun epoch (keeps.Above above) a b step was h = stays StoreHas _ a b h.1
 stores_begun epoch (keeps.Entered has) a b step was h = stays StoreHas _ a b h.1
 stores_begun epoch (keeps.Begun has) a b step was h =
     either (is_same has epoch) _ _ _ h
-    (λ e g. moves StoreHas (keeps.Begun has) (Beginning epoch) (TakingPart epoch) a b was g.1 (within StoreHas (keeps.Begun has) a.place (Beginning epoch) (TakingPart epoch) refl (λ o j k. k) (λ m u. tt)))
+    (λ e g. moves StoreHas (keeps.Begun has) (Beginning epoch) (TakingPart epoch) a b was g.1 (within StoreHas (keeps.Begun has) a.place (Beginning epoch) (TakingPart epoch) refl (λ o j k. k) (λ m u. tt) (λ o k. absurd k)))
     (λ e s. stays StoreHas _ a b s.1)
 
 stores : (has : Kept) (p : Phase) (a b : ColdStart) (step : Step) → a.phase ≡ p → Table.StoresIn p has a step b → Done StoreHas has a b
@@ -283,20 +295,20 @@ module _ (store : Kept) (from : ℕ) (epoch : Epoch) (now place : ℕ) where
       let more = slice_set heard from (Some now) in
       let greatest = Table.later_of above epoch in
       either (nat_lt a.place.config.f (count_by is_some more)) _ _ _ h
-      (λ e g. moves told store (Waiting heard above) (Above greatest) a b was g.1 (within told store a.place (Waiting heard above) (Above greatest) refl (λ o j k. k) (λ m u. tt)))
-      (λ e g. moves told store (Waiting heard above) (Waiting more (Some greatest)) a b was g.1 (within told store a.place (Waiting heard above) (Waiting more (Some greatest)) refl (λ o j k. k) (λ m u. tt)))
+      (λ e g. moves told store (Waiting heard above) (Above greatest) a b was g.1 (within told store a.place (Waiting heard above) (Above greatest) refl (λ o j k. k) (λ m u. tt) (λ o k. absurd k)))
+      (λ e g. moves told store (Waiting heard above) (Waiting more (Some greatest)) a b was g.1 (within told store a.place (Waiting heard above) (Waiting more (Some greatest)) refl (λ o j k. k) (λ m u. tt) (λ o k. absurd k)))
   hears_in (Above above) a b step was other h = hears_later (Above above) above a b step was other h
   hears_in (Entering own heard) a b step was other h =
       either (is_same epoch own) _ _ _ h
       (λ e g. moves told store (Entering own heard) (Entering own (slice_set heard from (Some now))) a b was g.1
-      (record { greets = λ o k. inl k; heard = λ o j k. one_more own o heard a.place j e other k; unfrozen = λ m u. tt }))
+      (record { greets = λ o k. inl k; heard = λ o j k. one_more own o heard a.place j e other k; unfrozen = λ m u. tt; begins = λ o k. absurd k }))
       (λ e g. hears_later (Entering own heard) own a b step was other g)
   hears_in (Entered own heard) a b step was other h =
       either (is_later epoch own) _ _ _ h (λ e g. hears_later (Entered own heard) own a b step was other g)
       (λ e g.
       either (is_same epoch own) _ _ _ g
       (λ d m. moves told store (Entered own heard) (Entered own (slice_set heard from (Some now))) a b was m.1
-      (record { greets = λ o k. inl k; heard = λ o j k. one_more own o heard a.place j d other k; unfrozen = λ m u. tt }))
+      (record { greets = λ o k. inl k; heard = λ o j k. one_more own o heard a.place j d other k; unfrozen = λ m u. tt; begins = λ o k. absurd k }))
       (λ d t. stays told store a b t.1))
   hears_in (Beginning own) a b step was other h = hears_later (Beginning own) own a b step was other h
   hears_in (TakingPart own) a b step was other h = hears_later (TakingPart own) own a b step was other h

@@ -1,5 +1,5 @@
 -- Which epoch is later, as an order, and stores that go on.
-use Rattle.std.proofs.Common.{◌≡◌, ℕ, Bool, true, false, List, ◌∷◌, Option, Some, None, Ok, refl, sym, ap, ◌∙◌, subst, inl, inr, eqb}
+use Rattle.std.proofs.Common.{◌≡◌, ℕ, true, List, ◌∷◌, Option, Some, None, Ok, refl, sym, ap, ◌∙◌, subst, inl, inr}
 use Rattle.std.proofs.lemmas.Bool.{false≢true, and_parts, eqb-true}
 use Rattle.std.specs.Cmp.{IsTotalOrder}
 use Rattle.std.specs.Cmp.Lexicographic.{slice_cmp, on_texts, bytes_decides}
@@ -60,7 +60,54 @@ come_on (keeps.Begun own) (keeps.Above above) epoch g h = absurd g
 come_on (keeps.Begun own) (keeps.Entered other) epoch g h = no_earlier_chain other own epoch (inr g) h
 come_on (keeps.Begun own) (keeps.Begun other) epoch g h = no_earlier_chain other own epoch (inl g) h
 
+-- ---- an epoch that was begun
+
+later_than_itself : (e : Epoch) → is_later e e ≡ true → ⊥
+later_than_itself e h =
+    let up : compared e e ≡ Greater = greater (compared e e) (sym (by_key (nat_cmp e.number e.number) e.image e.image) ∙ h) in
+    false≢true (ap is_gt (sym (below e e h) ∙ up))
+
+-- a store has begun this epoch, or left it
+abbrev pub HasBegun : Epoch → Kept → Type 0
+HasBegun epoch keeps.Nothing = ⊥
+HasBegun epoch (keeps.Above above) = ⊥
+HasBegun epoch (keeps.Entered own) = is_later own epoch ≡ true
+HasBegun epoch (keeps.Begun own) = IsNoEarlier own epoch
+
+later_yet : (a b c : Epoch) → is_later a b ≡ true → IsNoEarlier b c → is_later a c ≡ true
+later_yet a b c l (inl e) = subst (λ x. is_later a x ≡ true) e l
+later_yet a b c l (inr m) = later_chain a b c l m
+
+pub begun_on : (k l : Kept) (epoch : Epoch) → GoesOn k l → HasBegun epoch k → HasBegun epoch l
+begun_on keeps.Nothing l epoch g h = absurd h
+begun_on (keeps.Above above) l epoch g h = absurd h
+begun_on (keeps.Entered own) keeps.Nothing epoch g h = absurd g
+begun_on (keeps.Entered own) (keeps.Above above) epoch g h = absurd g
+begun_on (keeps.Entered own) (keeps.Entered other) epoch (inl e) h = subst (λ x. is_later x epoch ≡ true) (sym e) h
+begun_on (keeps.Entered own) (keeps.Entered other) epoch (inr l) h = later_chain other own epoch l h
+begun_on (keeps.Entered own) (keeps.Begun other) epoch g h = no_earlier_chain other own epoch (inl g) (inr h)
+begun_on (keeps.Begun own) keeps.Nothing epoch g h = absurd g
+begun_on (keeps.Begun own) (keeps.Above above) epoch g h = absurd g
+begun_on (keeps.Begun own) (keeps.Entered other) epoch g h = later_yet other own epoch g h
+begun_on (keeps.Begun own) (keeps.Begun other) epoch g h = no_earlier_chain other own epoch (inl g) h
+
+-- who has only entered an epoch hasn't begun it
+pub entered_only : (own epoch : Epoch) → own ≡ epoch → HasBegun epoch (keeps.Entered own) → ⊥
+entered_only own epoch is h = later_than_itself epoch (subst (λ x. is_later x epoch ≡ true) is h)
+
 -- ---- by hand
+
+entered_begun : (own epoch : Epoch) (image : List ℕ) (o : Option Epoch) (has : Kept) → next_epoch own image ≡ o → entered_by_hand o ≡ Ok has → IsNoEarlier own epoch → HasBegun epoch has
+entered_begun own epoch image None has is h k = absurd cc
+entered_begun own epoch image (Some next) has is h k =
+    let e : keeps.Entered next ≡ has = cc in
+    subst (λ x. HasBegun epoch x) e (later_yet next own epoch (behind_is_later own next image true is) k)
+
+pub hand_begun : (k has : Kept) (epoch : Epoch) (image : List ℕ) → by_hand k image ≡ Ok has → HasBegun epoch k → HasBegun epoch has
+hand_begun keeps.Nothing has epoch image h k = absurd k
+hand_begun (keeps.Above above) has epoch image h k = absurd k
+hand_begun (keeps.Entered own) has epoch image h k = entered_begun own epoch image (next_epoch own image) has refl h (inr k)
+hand_begun (keeps.Begun own) has epoch image h k = entered_begun own epoch image (next_epoch own image) has refl h k
 
 entered_on : (own epoch : Epoch) (image : List ℕ) (o : Option Epoch) (has : Kept) → next_epoch own image ≡ o → entered_by_hand o ≡ Ok has → IsNoEarlier own epoch → HasCome epoch has
 entered_on own epoch image None has is h k = absurd cc

@@ -2,3 +2,4 @@ pub mod Later
 pub mod Changes
 pub mod Standing
 pub mod Beginning
+pub mod Once

@@ -1,5 +1,5 @@
 -- What holds of all machines behind any moves.
-use Rattle.std.proofs.Common.{◌≡◌, ◌⊎◌, ℕ, zero, suc, ◌<◌, Bool, true, false, not, ◌&&◌, List, [], ◌∷◌, ◌++◌, Option, Some, None, Ok, refl, sym, ap, ◌∙◌, subst, inl, inr, is_some, ltb, eqb}
+use Rattle.std.proofs.Common.{◌≡◌, ℕ, zero, suc, ◌<◌, Bool, true, false, not, List, [], ◌∷◌, ◌++◌, Option, Some, None, refl, sym, ap, ◌∙◌, subst, inl, inr, is_some, ltb, eqb}
 use Rattle.std.specs.Prelude.{slice_get}
 use Rattle.std.proofs.lemmas.Bool.{false≢true, and_parts, not-true, ltb-true, eq-eqb}
 use Rattle.std.proofs.lemmas.Option.{same_Some}
@@ -10,7 +10,7 @@ use Rattle.net_hello.specs.declared.hello.Epoch.{Epoch}
 use Rattle.plc_epochs.specs.GoingOn.{GoesOn, StoreGoesOn}
 use Rattle.plc_epochs.specs.Recovering.{first_nonce}
 use Rattle.plc_epochs.specs.Table
-use Rattle.plc_epochs.specs.Table.{greeting_in, is_other, kept_in, phase_from, spoken_in, StartsAs}
+use Rattle.plc_epochs.specs.Table.{greeting_in, kept_in, phase_from, spoken_in, StartsAs}
 use Rattle.plc_epochs.specs.declared.kept.Kept.{Kept}
 use Rattle.plc_epochs.specs.declared.kept.Kept.TheVariants as keeps
 use Rattle.plc_epochs.specs.declared.cold_start.ColdStart.{ColdStart}
@@ -26,7 +26,7 @@ use Rattle.laws_epochs.specs.Machines.{Telling, TimeHasPassed, StoreHas, HelloCa
 use Rattle.laws_epochs.specs.Machines.{Move, Starts, Takes, Greets, Writes, Stops, GoesByHand, Machine, Machines, to_write, May, after_move, AreMoves, after_moves, at_rest}
 use Rattle.laws_epochs.specs.Beginnings.{HasCome, IsNoEarlier, IsPast, IsUnfrozen}
 use Rattle.laws_epochs.proofs.Later.{come_on, hand_on}
-use Rattle.laws_epochs.proofs.Changes.{WasHeard, IsToldBy, Changes, Done, done, epoch_in, no_hello, nothing_heard}
+use Rattle.laws_epochs.proofs.Changes.{WasHeard, IsToldBy, Done, done, epoch_in, no_hello, nothing_heard}
 
 -- no step lets a store go back
 abbrev pub GoingOn : Type 0

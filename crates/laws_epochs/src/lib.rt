@@ -13,6 +13,7 @@
 //!   (`epochs_begin_behind_a_majority`, `specs/Beginnings`).
 //! - No machine goes back: once its store has an epoch, or it has said hello in it, its store never has an earlier one
 //!   again, and it takes part in none (`machines_never_go_back`).
+//! - A machine begins an epoch once, over all its processes (`machines_begin_an_epoch_once`).
 //! - Machines that begin one epoch have one image (`beginners_have_one_image`).
 //! - A machine that is marked neither freezes nor asks, whatever it's told (`marked_machines_never_freeze`).
 //!
@@ -28,9 +29,9 @@ ghost use Rattle.std.specs.Prelude.{◌≡◌, ℕ, true, Some, List, [], ◌∷
 ghost use Rattle.net_hello.specs.declared.hello.Epoch.{Epoch};
 ghost use Rattle.plc_epochs.specs.declared.kept.Kept.{Kept};
 ghost use Rattle.plc_epochs.specs.declared.cold_start.ColdStart.{ColdStart};
-ghost use Rattle.plc_epochs.specs.declared.cold_start.Step.TheVariants.{Begins};
+ghost use Rattle.plc_epochs.specs.declared.cold_start.Step.TheVariants.{Begins, Starts};
 ghost use Rattle.plc_epochs.specs.Table as table;
-ghost use Rattle.laws_epochs.specs.Machines.{Move, Takes, TimeHasPassed, AreMoves, after_moves, at_rest};
+ghost use Rattle.laws_epochs.specs.Machines.{Move, Takes, StoreHas, TimeHasPassed, AreMoves, after_moves, at_rest};
 ghost use Rattle.laws_epochs.specs.Beginnings.{HasCome, IsPast, MajorityIsPast, IsUnfrozen};
 
 /// A machine begins an epoch only once f+1 machines have come to that epoch, and have left all before it for good. So an
@@ -54,6 +55,16 @@ pub fn machines_never_go_back()
         → AreMoves f (at_rest stores) moves
         → slice_get (after_moves f (at_rest stores) moves).hellos place ≡ Some (i, epoch)
         → HasCome epoch ((after_moves f (at_rest stores) moves).at i).store }
+{
+    plc_epochs::no_store_goes_back();
+}
+
+/// A machine begins an epoch once: never again, whatever comes, whether its process ends or goes on. So in the run that
+/// an epoch is, each machine has at most one replica that starts as new.
+pub fn machines_begin_an_epoch_once()
+    ensures { (f i : ℕ) (stores : ℕ → Kept) (early late : List Move) (epoch : Epoch) (first second : ColdStart)
+        → AreMoves f (at_rest stores)
+        (early ++ (Takes i StoreHas (Starts epoch) first ∷ (late ++ Takes i StoreHas (Starts epoch) second ∷ []))) → ⊥ }
 {
     plc_epochs::no_store_goes_back();
 }
