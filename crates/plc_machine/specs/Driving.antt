@@ -1,11 +1,9 @@
 -- What the driver of a machine does by a look at its replica, by a scan and by a reply, and when it shows outputs.
-use Rattle.std.specs.Prelude.{◌≡◌, ℕ, ◌+◌, ◌*◌, ◌≤◌, ◌<◌, ◌⊎◌, List, Option, Some, None, nat_lt, is_some}
+use Rattle.std.specs.Prelude.{◌≡◌, ℕ, ◌+◌, ◌*◌, ◌≤◌, ◌<◌, List, Option, Some, None, nat_lt, is_some}
 use Rattle.std.specs.Prelude.{Bool, false, true, if◌then◌else◌, option_map}
 use Rattle.std.specs.Duration.{as_nanos}
 use Rattle.std.specs.declared.time.Duration.{Duration}
 use Rattle.vr_model.specs.declared.message.Message.{Message}
-use Rattle.vr_model.specs.Steps.{StartsAgain}
-use Rattle.vr_client.specs.Client.{BecomesAt}
 use Rattle.io_image.specs.Book.{Book}
 use Rattle.io_image.specs.declared.release.Release.{Release}
 use Rattle.io_driver.specs.Driver.{SubmitsSample}
@@ -27,15 +25,10 @@ IsKept (Some view) (Leading lead) = lead.view ≡ view
 abbrev pub client_starts : ℕ → Option ℕ
 client_starts starts = if nat_lt starts 65536 then Some (starts * 65536) else None
 
--- its client is as it was; or it started once more, which is counted: so no number is given twice
-abbrev pub KeepsNumbers : MachineDriver → MachineDriver → Type 0
-KeepsNumbers a b = ((b.driver ≡ a.driver) × (b.restarts ≡ a.restarts))
-    ⊎ (BecomesAt a.driver StartsAgain b.driver × (b.restarts ≡ a.restarts + 1))
-
--- nothing waits any more, and all else is as it was
+-- nothing waits any more, and all else is as it was; its client's starts rose as those that were counted
 pub record GivesUp (a b : MachineDriver) : Type 0 where
   pub waits : is_some b.driver.state.waits ≡ false
-  pub client : KeepsNumbers a b
+  pub restarts : b.driver.state.starts + a.restarts ≡ a.driver.state.starts + b.restarts
   pub course : b.course ≡ a.course
   pub pace : b.pace ≡ a.pace
   pub submitted : b.submitted ≡ a.submitted
@@ -45,7 +38,7 @@ pub record GivesUp (a b : MachineDriver) : Type 0 where
 pub record Looks (leads : Option ℕ) (last : Option LastScan) (now : Duration) (a b : MachineDriver) : Type 0 where
   pub course : Follows a.course leads last now a.pace b.course
   pub pace : b.pace ≡ a.pace
-  pub client : KeepsNumbers a b
+  pub restarts : b.driver.state.starts + a.restarts ≡ a.driver.state.starts + b.restarts
   pub kept : IsKept leads a.course → (b.driver ≡ a.driver) × (b.shown ≡ a.shown) × (b.submitted ≡ a.submitted)
   pub turned : (IsKept leads a.course → ⊥) → (is_some b.driver.state.waits ≡ false) × (b.shown ≡ None)
 
@@ -62,7 +55,7 @@ pub record SubmitsScan (now : Duration) (told : Option Book) (sends : List Messa
   pub same : (later.view ≡ lead.view) × (later.from ≡ lead.from) × (later.opens ≡ lead.opens)
   pub due : as_nanos later.due ≡ next_due (as_nanos lead.due) (as_nanos now) (as_nanos a.pace.period)
   pub submitted : b.submitted ≡ now
-  pub kept : (b.shown ≡ a.shown) × (b.pace ≡ a.pace) × (b.restarts ≡ a.restarts)
+  pub kept : (b.shown ≡ a.shown) × (b.pace ≡ a.pace)
 
 -- As of which submission outputs are shown, once the scan that was submitted then is answered, or isn't: what it
 -- releases is shown as of then. Where it's answered and releases nothing it's held, and what was shown before stays, as
@@ -76,7 +69,7 @@ shown_by false false submitted before = before
 abbrev pub TakesReply : Option Release → Bool → MachineDriver → MachineDriver → Type 0
 TakesReply release is_answered a b =
     (b.shown ≡ shown_by (is_some release) is_answered a.submitted a.shown) × (b.course ≡ a.course)
-    × (b.submitted ≡ a.submitted) × (b.pace ≡ a.pace) × (b.restarts ≡ a.restarts)
+    × (b.submitted ≡ a.submitted) × (b.pace ≡ a.pace)
 
 -- by which times outputs are shown now
 abbrev pub ShowsAt : ℕ → Course → Option Duration → ℕ → Type 0

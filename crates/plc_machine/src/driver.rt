@@ -112,7 +112,6 @@ impl MachineDriver {
 
     /// Looks at its replica, which leads this view, if it leads. Where the machine begins or ceases to lead, what waits
     /// is given up, so that no old inputs are ever asked for again, and nothing is shown.
-    #[tactic(auto, using(crate::proofs::Restarts::keeps_numbers))]
     pub fn look(
         &mut self,
         leads: Option<u64>,
@@ -143,7 +142,7 @@ impl MachineDriver {
     }
 
     /// Gives up what waits.
-    #[tactic(auto, using(crate::proofs::Restarts::waits_for_nothing, crate::proofs::Restarts::keeps_numbers))]
+    #[tactic(auto, using(crate::proofs::Restarts::waits_for_nothing, crate::proofs::Restarts::one_start_more))]
     fn give_up(&mut self) -> Result<(), NumbersUsedUp>
         ensures given_up { OnOk result (GivesUp self.old self.new) }
         ensures used_up { OnErr result (self.new ≡ self.old) }

@@ -20,5 +20,4 @@ returns-clause-shown c log =
       refl,
       refl,
       refl,
-      refl,
     )
