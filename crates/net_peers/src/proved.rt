@@ -119,7 +119,6 @@ impl Called {
     }
 
     /// Hears what the machine says first behind its proof.
-    #[tactic(auto, using(crate::proofs::Believed::proved_by_listener))]
     pub(crate) fn hear(self, body: &[u8], sum: &[u8; SUM]) -> Result<Word, ChallengeFault> {
         let Called {
             guard,
@@ -128,8 +127,9 @@ impl Called {
             ..
         } = self;
         let mut ends = ends;
-        if ends.opener.open(body, sum).is_err() {
-            return Err(ChallengeFault::Forged);
+        match ends.opener.open(body, sum) {
+            Ok(()) => {}
+            Err(_) => return Err(ChallengeFault::Forged),
         }
         let Some(hello) = hello_in(body) else {
             return Ok(Word::Other);
@@ -180,7 +180,6 @@ impl Answering {
     }
 
     /// Hears what the machine says first, by which it proves that it has the key.
-    #[tactic(auto, using(crate::proofs::Believed::proved_by_dialler, crate::proofs::Believed::left_by_dialler))]
     pub(crate) fn hear(self, body: &[u8], sum: &[u8; SUM]) -> Result<Word, ChallengeFault> {
         let Answering {
             guard,
