@@ -42,6 +42,7 @@
 mod antechamber;
 mod beginning;
 mod begun;
+mod both;
 mod by_hand;
 mod drive;
 mod ended;

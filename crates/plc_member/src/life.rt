@@ -6,6 +6,7 @@ ghost use Rattle.plc_epochs.specs.Table.{StartsAs};
 ghost use Rattle.plc_member.specs.Keeping.{begins_by_itself};
 
 use crate::begun::{Begun, ReplicaFiles, Surroundings};
+use crate::both::both;
 use crate::held_link::Hold;
 use crate::keeper::{Keeper, Terms};
 use crate::links::{Linked, hello_of, links_of, machine_of};
@@ -18,7 +19,6 @@ use net_peers::{Exchange, Machine};
 use plc_epochs::{ColdStart, Place};
 use plc_group::{ColdStart as Manner, Group};
 use plc_host::{Failed, Host};
-use plc_services::both;
 use plc_store::{Header, Start};
 use std::alloc::{AllocError, Global};
 use std::net::{Net, SocketAddr, TcpListener, TcpStream};

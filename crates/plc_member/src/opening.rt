@@ -6,6 +6,7 @@ ghost use Rattle.plc_member.specs.Keeping.{way_of};
 use crate::antechamber::{Gone, waited};
 use crate::beginning::Beginning;
 use crate::begun::{Begun, ReplicaFiles};
+use crate::both::both;
 use crate::ended::{Ended, Left};
 use crate::life::{Life, Origin, life_of};
 use crate::program::Marker;
@@ -22,7 +23,6 @@ use plc_epochs::Kept;
 use plc_group::Group;
 use plc_host::{Failed, Host};
 use plc_machine::wanted;
-use plc_services::both;
 use plc_status::{Journals, Notice};
 use plc_store::{
     ChangeMark, FileDirectory, Opened, Refusal, Start, Store, StoreDirectory, is_changed, open,

@@ -1,29 +1,50 @@
 //! What is open at a machine beside its port: an operator's console and a page, where its group's file names them.
 
+use crate::both::both;
 use crate::links::console_of;
 use crate::serving::{MachineRuntime, millis};
 use crate::starting::Running;
 use io_image::{Naming, ReleasedReader};
 use net_peers::{FIRST_CONSOLE, PeerLink};
-use plc_console::{Desk, DeskClient, Entrance, Others};
+use plc_console::{Console, Desk, DeskClient, Entrance, OpenConsole, Others};
 use plc_group::Group;
-use plc_host::{Failed, Host};
+use plc_host::{Failed, Host, ServiceRuntime};
 use plc_listener::{Door, DoorRuntime};
 use plc_machine::client_starts;
-use plc_page::{Showing, Whose};
-use plc_services::{About, Display, Notes, Operated, Services, both};
-use plc_status::{Journal, StatusWriter};
+use plc_page::{OpenPage, Page, Published, Showing, Whose};
+use plc_status::{Journal, StatusReader, StatusWriter};
 use std::alloc::{AllocError, Global};
-use std::net::SocketAddr;
+use std::net::{Net, SocketAddr, TcpListener, TcpStream};
 use std::sync::Arc;
 use std::sync::atomic::AtomicBool;
 use std::time::Duration;
 use vr_model::ClientNumber;
 
+/// What a console tells and notes.
+#[derive(Drop)]
+struct ToServe {
+    /// Where what an operator does is noted.
+    journal: Journal,
+    /// What shows of the machine.
+    status: StatusReader,
+}
+
+/// What a page tells, and what is published of its machine.
+#[derive(Drop)]
+struct ToShow<J: Naming> {
+    /// Where it's noted what becomes of the page.
+    journal: Journal,
+    status: StatusReader,
+    released: ReleasedReader<J>,
+}
+
 /// What a console and a page of a machine are made of, beside what is published of the machine.
 #[derive(Drop)]
 pub(crate) struct Beside {
-    pub(crate) notes: Notes,
+    /// Where what an operator does at the console is noted.
+    pub(crate) console: Journal,
+    /// Where it's noted what becomes of the page.
+    pub(crate) page: Journal,
     /// What the page shows beside what is published, if one is wanted.
     pub(crate) showing: Option<Showing>,
 }
@@ -35,6 +56,32 @@ struct Told {
     others: Others,
     has_changed: Arc<AtomicBool>,
     has_no_majority: Arc<AtomicBool>,
+}
+
+/// Two readers of what shows of a machine.
+fn readers_of(status: &StatusWriter) -> Result<(StatusReader, StatusReader), AllocError> {
+    both(status.reader()?, status.reader())
+}
+
+/// What is not open yet.
+#[derive(Drop)]
+pub(crate) struct Services<R, J>
+where
+    R: ServiceRuntime + Net<Listener = TcpListener, Stream = TcpStream>,
+    J: Naming,
+{
+    pub(crate) console: Option<Console<R, PeerLink<R>>>,
+    pub(crate) page: Option<Page<R, J>>,
+}
+
+/// What is open. It can't be let go of but by `close`, which joins its threads.
+pub(crate) struct OpenServices<R, J>
+where
+    R: ServiceRuntime + Net<Listener = TcpListener, Stream = TcpStream>,
+    J: Naming,
+{
+    console: Option<OpenConsole<R, PeerLink<R>>>,
+    page: Option<OpenPage<R, J>>,
 }
 
 /// Where it's asked what shows of it, if that's shown.
@@ -125,41 +172,77 @@ impl<R: MachineRuntime> Running<R> {
         Ok(desk.minding(has_no_majority))
     }
 
-    /// What its console is made of, behind this door. What an operator does is noted in this journal.
-    fn operated_behind(
+    /// The operator's console behind this door, which takes no connection yet.
+    fn console_behind(
         &self,
         host: Host<R>,
         group: &Group,
         door: Door,
         link: PeerLink<R>,
-        journal: Journal,
-    ) -> Result<Operated<R, PeerLink<R>>, Failed> {
+        beside: ToServe,
+    ) -> Result<Console<R, PeerLink<R>>, Failed> {
         let key = key_of(host.alloc, group);
-        let ((door, link, journal), key) = both((door, link, journal), key)?;
+        let ((door, link, beside), key) = both((door, link, beside), key)?;
+        let ToServe { journal, status } = beside;
         let idle = Duration::from_secs(u64::from(group.times.idle));
         let entrance = Entrance { door, idle, key };
-        let (entrance, desk) = both(entrance, self.desk(host, group, link, journal))?;
-        Ok(Operated { entrance, desk })
+        let desk = self.desk(host, group, link, journal);
+        let ((entrance, status), desk) = both((entrance, status), desk)?;
+        Console::new(host, entrance, desk, &self.around.origin.image, status)
     }
 
-    /// What its console is made of, if it has one. What an operator does is noted in this journal.
-    fn operated(
+    /// The operator's console, if the machine has one, which takes no connection yet.
+    fn console(
         &mut self,
         host: Host<R>,
         group: &Group,
-        journal: Journal,
-    ) -> Result<Option<Operated<R, PeerLink<R>>>, Failed> {
+        beside: ToServe,
+    ) -> Result<Option<Console<R, PeerLink<R>>>, Failed> {
         let Some(link) = self.around.console.take() else {
-            drop(journal);
+            drop(beside);
             return Ok(None);
         };
         let door = console_door(host, group, self.around.number());
-        let ((link, journal), door) = both((link, journal), door)?;
+        let ((link, beside), door) = both((link, beside), door)?;
         let Some(door) = door else {
-            drop((link, journal));
+            drop((link, beside));
             return Ok(None);
         };
-        Ok(Some(self.operated_behind(host, group, door, link, journal)?))
+        Ok(Some(self.console_behind(host, group, door, link, beside)?))
+    }
+
+    /// The page that shows the machine, if it has one, which nobody is shown yet. It shows this beside what is
+    /// published, if one is wanted.
+    fn page<J: Naming + Send + Sync + 'static>(
+        &self,
+        host: Host<R>,
+        group: &Group,
+        shown: ToShow<J>,
+        showing: Option<Showing>,
+    ) -> Result<Option<Page<R, J>>, Failed> {
+        let number = self.around.number();
+        let (Some(address), Some(showing)) = (status_of(group, number), showing) else {
+            drop(shown);
+            return Ok(None);
+        };
+        let has_changed = Arc::try_clone(&self.boards.has_changed);
+        let ((shown, showing), has_changed) = both((shown, showing), has_changed)?;
+        let ToShow {
+            journal,
+            status,
+            released,
+        } = shown;
+        let published = Published {
+            whose: Whose::Machine(number),
+            period: group.period,
+            status,
+            released,
+            begun: self.around.keeper.begun,
+            has_changed,
+            journal,
+        };
+        let image = &self.around.origin.image;
+        Ok(Some(Page::new(host, address, image, showing, published)?))
     }
 
     /// What the machine has beside its port, which isn't open yet. What shows of it is read of `status`, its outputs of
@@ -171,31 +254,96 @@ impl<R: MachineRuntime> Running<R> {
         status: &StatusWriter,
         released: ReleasedReader<J>,
         beside: Beside,
-    ) -> Result<Services<R, PeerLink<R>, J>, Failed> {
-        let Beside { notes, showing } = beside;
-        let Notes { console, page } = notes;
-        let operated = self.operated(host, group, console);
-        let ((released, showing, page), operated) = both((released, showing, page), operated)?;
-        let has_changed = Arc::try_clone(&self.boards.has_changed);
-        let ((released, showing, page, operated), has_changed) = both(
-            (released, showing, page, operated),
-            has_changed,
-        )?;
-        let number = self.around.number();
-        let about = About {
-            whose: Whose::Machine(number),
-            image: &self.around.origin.image,
-            status,
-            period: group.period,
-            begun: self.around.keeper.begun,
-        };
-        let display = Display {
-            address: status_of(group, number),
+    ) -> Result<Services<R, J>, Failed> {
+        let readers = readers_of(status);
+        let ((released, beside), (status, shown)) = both((released, beside), readers)?;
+        let Beside {
+            console,
+            page,
             showing,
-            released,
-            has_changed,
-            journal: page,
+        } = beside;
+        let to_serve = ToServe {
+            journal: console,
+            status,
         };
-        Services::new(host, about, operated, display)
+        let to_show = ToShow {
+            journal: page,
+            status: shown,
+            released,
+        };
+        let console = self.console(host, group, to_serve);
+        let ((to_show, showing), console) = both((to_show, showing), console)?;
+        let (console, page) = both(console, self.page(host, group, to_show, showing))?;
+        Ok(Services { console, page })
+    }
+}
+
+/// Takes connections at a console, if there is one.
+fn opened_console<R>(
+    console: Option<Console<R, PeerLink<R>>>,
+) -> Result<Option<OpenConsole<R, PeerLink<R>>>, Failed>
+where
+    R: MachineRuntime,
+{
+    match console {
+        Some(console) => Ok(Some(console.open()?)),
+        None => Ok(None),
+    }
+}
+
+/// Shows a page, if there is one.
+fn opened_page<R, J>(page: Option<Page<R, J>>) -> Result<Option<OpenPage<R, J>>, Failed>
+where
+    R: DoorRuntime,
+    J: Naming + Send + Sync + 'static,
+{
+    match page {
+        Some(page) => Ok(Some(page.open()?)),
+        None => Ok(None),
+    }
+}
+
+/// Ends a console, if there is one.
+fn close_console<R>(console: Option<OpenConsole<R, PeerLink<R>>>)
+where
+    R: ServiceRuntime + Net<Listener = TcpListener, Stream = TcpStream>,
+{
+    if let Some(console) = console {
+        console.close();
+    }
+}
+
+impl<R, J> Services<R, J>
+where
+    R: MachineRuntime,
+    J: Naming + Send + Sync + 'static,
+{
+    /// Takes connections at both, as soon as their doors are to be had. The console is opened first, and closed where the
+    /// page can't be shown.
+    pub(crate) fn open(self) -> Result<OpenServices<R, J>, Failed> {
+        let Services { console, page } = self;
+        let (page, console) = both(page, opened_console(console))?;
+        match opened_page(page) {
+            Ok(page) => Ok(OpenServices { console, page }),
+            Err(failed) => {
+                close_console(console);
+                Err(failed)
+            }
+        }
+    }
+}
+
+impl<R, J> OpenServices<R, J>
+where
+    R: ServiceRuntime + Net<Listener = TcpListener, Stream = TcpStream>,
+    J: Naming,
+{
+    /// Takes none any more, and ends each connection and the threads.
+    pub(crate) fn close(self) {
+        let OpenServices { console, page } = self;
+        if let Some(page) = page {
+            page.close();
+        }
+        close_console(console);
     }
 }

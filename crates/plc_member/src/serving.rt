@@ -3,6 +3,7 @@
 ghost use Rattle.std.specs.Prelude.{◌≡◌};
 
 use crate::begun::{Begun, Surroundings};
+use crate::both::both;
 use crate::drive::{Drive, Parting};
 use crate::ended::{Ended, Left};
 use crate::keeper::Keeper;
@@ -15,9 +16,9 @@ use crate::starting::{Running, started};
 use crate::stop::Stop;
 use crate::teller::{Submitted, Teller, ToTell};
 use crate::tracer::Tracer;
-use io_image::{Naming, NewList, Pen, ReleasedReader, SharedPen, Stage};
+use io_image::{Naming, NewList, Pen, ReleasedReader, SharedPen, Stage, Stamp, released};
 use io_model::CountedWrite;
-use modbus_server::Seats;
+use modbus_server::{Seats, Shown};
 use net_peers::PeerLink;
 use plc_group::Group;
 use plc_host::{Failed, Host};
@@ -25,7 +26,6 @@ use plc_listener::DoorRuntime;
 use plc_machine::{MachineDriver, Pace, client_starts};
 use plc_node_core::{Node, Role, ScanClient};
 use plc_page::Showing;
-use plc_services::{Notes, Outputs as Released, both};
 use plc_status::{Journal, Journals, Notice, Printer, StatusWriter};
 use std::net::SocketAddr;
 use std::rt::Files;
@@ -35,6 +35,9 @@ use std::thread::JoinHandle;
 use std::time::Duration;
 use vr_model::ClientNumber;
 use vr_threads::Starts;
+
+/// So many sessions of Modbus clients are served at once.
+const SESSIONS: usize = 16;
 
 /// A runtime that the process of a machine runs on.
 pub trait MachineRuntime: DoorRuntime + Files {}
@@ -55,7 +58,37 @@ struct Outputs<R: MachineRuntime, J: Naming, P: Pen<J> + Drop> {
     reader: ReleasedReader<J>,
 }
 
-/// What the outputs of a machine are released to. Clients are shown outputs for as long as those are fresh.
+/// What clients are served with, one for each of these readers. They are shown outputs for as long as those are fresh.
+fn seats_of<J, R>(
+    host: Host<R>,
+    group: &Group,
+    readers: Vec<ReleasedReader<J>>,
+    stamp: &Arc<Stamp<R>>,
+    status: &StatusWriter,
+) -> Result<Seats<R, J>, Failed>
+where
+    J: Naming + Send + Sync + 'static,
+    R: MachineRuntime,
+{
+    let shown = Shown {
+        readers,
+        stamp: Arc::try_clone(stamp)?,
+        // Ages are whole milliseconds, rounded down: so none that is shown is older than `fresh`.
+        limit: Some(group.times.fresh.saturating_sub(1)),
+    };
+    let idle = Duration::from_secs(u64::from(group.times.idle));
+    Seats::new(host, shown, idle, status.traffic()?)
+}
+
+/// The last of these readers, and the others.
+fn last_of<T: Drop>(mut readers: Vec<T>) -> Result<(T, Vec<T>), Failed> {
+    match readers.pop() {
+        Some(reader) => Ok((reader, readers)),
+        None => Err(Failed::Memory),
+    }
+}
+
+/// What the outputs of a machine are released to.
 fn outputs_of<J, R>(
     host: Host<R>,
     list: NewList,
@@ -67,20 +100,14 @@ where
     R: MachineRuntime,
     requires { list ≡ J.book }
 {
-    // Ages are whole milliseconds, rounded down: so none that is shown is older than `fresh`.
-    let limit = group.times.fresh.saturating_sub(1);
-    let traffic = status.traffic()?;
-    let released = Released::<R, J, SharedPen<J, R>>::new(host, list, Some(limit));
-    let (traffic, released) = both(traffic, released)?;
-    let Released {
-        writer,
-        stamp,
-        shown,
-        reader,
-    } = released;
-    let idle = Duration::from_secs(u64::from(group.times.idle));
-    let seats = Seats::new(host, shown, idle, traffic);
-    let ((writer, stamp, reader), seats) = both((writer, stamp, reader), seats)?;
+    let Host { rt, alloc } = host;
+    let stamp = Arc::new(alloc, Stamp::new(rt)?)?;
+    let Ok((writer, readers)) = released::<J, R>(list, alloc, rt, SESSIONS + 1) else {
+        return Err(Failed::Memory);
+    };
+    let (writer, (reader, readers)) = both(writer, last_of(readers))?;
+    let seats = seats_of(host, group, readers, &stamp, status);
+    let ((writer, reader), seats) = both((writer, reader), seats)?;
     Ok(Outputs {
         publisher: Publisher { writer, stamp },
         seats,
@@ -171,8 +198,11 @@ where
             page,
             printer,
         } = journals;
-        let notes = Notes { console, page };
-        let beside = Beside { notes, showing };
+        let beside = Beside {
+            console,
+            page,
+            showing,
+        };
         let served = begun.served::<J>(host, list, group, journal);
         let ((beside, mut printer), served) = both((beside, printer), served)?;
         let ended = served.run(host, group, beside, &mut printer, err);

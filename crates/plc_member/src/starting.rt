@@ -4,6 +4,7 @@ ghost use Rattle.std.specs.Prelude.{◌≡◌, IfOk};
 ghost use Rattle.plc_member.specs.Marking.{found_mark};
 
 use crate::begun::{Begun, ReplicaFiles, Surroundings};
+use crate::both::both;
 use crate::giving_up::GivingTimer;
 use crate::held_link::HeldLink;
 use crate::life::Origin;
@@ -16,7 +17,6 @@ use net_peers::PeerLink;
 use plc_console::SnapshotBoard;
 use plc_group::Group;
 use plc_host::{Failed, Host};
-use plc_services::both;
 use std::alloc::{AllocError, Global};
 use std::sync::Arc;
 use std::sync::atomic::AtomicBool;

@@ -1,7 +1,6 @@
 //! A served controller, put together: the driver of a group of replicas (`plc_driver`), sessions at a port of this
-//! machine (`modbus_server`), an operator's console at another and a page (`plc_services`), and the journal that tells
-//! what changes (`plc_status`). It opens them in order and closes them in reverse; it has no loop, no protocol, no text
-//! and no thread.
+//! machine (`modbus_server`), an operator's console at another (`plc_console`), and the journal that tells what changes
+//! (`plc_status`). It opens them in order and closes them in reverse; it has no loop, no protocol, no text and no thread.
 //!
 //! ```rust
 //! let node = Node { image, directory, stores, settings, status }; // a store for each replica
@@ -16,5 +15,6 @@
 
 mod node;
 mod opening;
+mod showing;
 
 pub use node::Node;

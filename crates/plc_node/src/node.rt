@@ -4,24 +4,20 @@ ghost use Rattle.std.specs.Prelude.{◌≡◌, IfOk, OnOk, Some, vec_len};
 ghost use Rattle.vr_model.specs.Groups.{group_size};
 ghost use Rattle.plc_status.specs.Notices.{IsAtMostServingTold, IsServingTold};
 
-use crate::opening::{Ready, Releases};
+use crate::opening::{Kept, Notes, Ready};
 use il_loader::Image;
-use io_image::{MarkingPen, Naming, NewList, SharedPen};
+use io_image::{Naming, NewList};
 use io_model::CountedWrite;
 use plc_driver::{Directory, Driver, GroupLinks, Parts};
 use plc_host::{Failed, Host, ServiceRuntime};
 use plc_listener::DoorRuntime;
 use plc_page::Showing;
-use plc_services::{Notes, both};
 use plc_settings::{Operators, Settings};
-use plc_status::{Counts, Journal, Journals, StatusWriter};
+use plc_status::{Counts, Journals, StatusWriter};
 use std::rt::Files;
 use std::time::Instant;
 use vr_ports::Relink;
 use vr_threads::Starts;
-
-/// The driver of a controller, whose releases are marked.
-type NodeDriver<R, L, J> = Driver<R, L, J, MarkingPen<SharedPen<J, R>, R>>;
 
 /// What a controller is made of that is to be served: its program's image, and a store of the directory for each
 /// replica, none of which is opened yet.
@@ -70,7 +66,7 @@ impl<S: Starts + Send + Drop + 'static> Node<'_, S> {
         self,
         host: Host<R>,
         list: NewList,
-        links: Vec<L>,
+        mut links: Vec<L>,
         err: &mut E,
     ) -> Result<Counts, Failed>
     where
@@ -82,53 +78,6 @@ impl<S: Starts + Send + Drop + 'static> Node<'_, S> {
         ensures told { OnOk result (IsServingTold E.CountedWrite err.old err.new) }
         ensures at_most { IsAtMostServingTold E.CountedWrite err.old err.new }
     {
-        let ((node, links), journals) = both((self, links), Journals::new(host.alloc))?;
-        let ((mut node, mut links, journals), begun) = both(
-            (node, links, journals),
-            Instant::now(&host.rt),
-        )?;
-        let Journals {
-            driver: journal,
-            console,
-            page,
-            printer,
-        } = journals;
-        let notes = Notes { console, page };
-        let ready = Ready::<R, L, J>::new(host, list, &mut node, &mut links, begun, notes);
-        let ((node, links, journal, printer), (ready, writer)) = both(
-            (node, links, journal, printer),
-            ready,
-        )?;
-        let directory = node.directory;
-        let driver = node.driver(host, links, writer, journal, begun);
-        let ((ready, printer), driver) = both((ready, printer), driver)?;
-        match ready.open(host, directory) {
-            Ok(open) => open.attend(&host.rt, driver, printer, err),
-            Err(failed) => {
-                drop(printer);
-                driver.end(&host.rt);
-                Err(cleared(host, directory, failed))
-            }
-        }
-    }
-
-    /// Starts the replicas over these links, and releases to this writer. Where that fails, no file of a replica is
-    /// left.
-    fn driver<J, R, L>(
-        self,
-        host: Host<R>,
-        links: Vec<L>,
-        writer: Releases<J, R>,
-        journal: Journal,
-        begun: Instant,
-    ) -> Result<NodeDriver<R, L, J>, Failed>
-    where
-        J: Naming + Send + Sync + 'static,
-        R: DoorRuntime + Files,
-        L: Relink + Send + Drop + 'static,
-        ensures journal { IfOk result (λ driver. driver.drive.journal ≡ journal) }
-        ensures scans { IfOk result (λ driver. driver.drive.scans ≡ self.entry.settings.scans) }
-    {
         let Node {
             image,
             directory,
@@ -138,7 +87,20 @@ impl<S: Starts + Send + Drop + 'static> Node<'_, S> {
             showing,
             operators,
         } = self;
-        drop((showing, operators));
+        let alloc = host.alloc;
+        let Journals {
+            driver: journal,
+            console,
+            page,
+            printer,
+        } = Journals::new(alloc)?;
+        let notes = Notes { console, page };
+        let begun = Instant::now(&host.rt)?;
+        let kept = Kept::of(alloc, &status, notes, showing, begun)?;
+        let kept = kept.with(operators);
+        let (ready, writer) = Ready::<R, L, J>::new(
+            host, list, &settings, &image, &mut links, kept,
+        )?;
         let parts = Parts {
             links,
             stores,
@@ -147,11 +109,16 @@ impl<S: Starts + Send + Drop + 'static> Node<'_, S> {
             status,
             begun,
         };
-        let started = Driver::start(host, &settings, &image, parts);
-        drop(image);
-        match started {
-            Ok(driver) => Ok(driver),
-            Err(failed) => Err(cleared(host, directory, failed)),
+        let driver = match Driver::start(host, &settings, &image, parts) {
+            Ok(driver) => driver,
+            Err(failed) => return Err(cleared(host, directory, failed)),
+        };
+        match ready.open(host, directory) {
+            Ok(open) => open.attend(&host.rt, driver, printer, err),
+            Err(failed) => {
+                driver.end(&host.rt);
+                Err(cleared(host, directory, failed))
+            }
         }
     }
 }

@@ -1,25 +1,24 @@
-//! What takes connections: the sessions of Modbus clients, and an operator's console and a page if they are asked for.
+//! What takes connections: the sessions of Modbus clients, and an operator's console if one is asked for.
 
-ghost use Rattle.std.specs.Prelude.{◌≡◌, [], IfOk, Some, vec_len};
+ghost use Rattle.std.specs.Prelude.{◌≡◌, [], IfOk, Some};
 ghost use Rattle.plc_status.specs.Journal.{IsJournalOf};
 ghost use Rattle.plc_status.specs.Notices.{IsServingTold};
 
-use crate::node::Node;
+use crate::showing::{ToShow, close_page, opened_page};
+use il_loader::Image;
 use io_image::{
-    MarkingPen, Naming, NewList, Pen, ReleasedReader, ReleasedWriter, SharedPen, Stage,
+    MarkingPen, Naming, NewList, Pen, ReleasedWriter, SharedPen, Stage, Stamp, released,
 };
 use io_model::CountedWrite;
-use modbus_server::{OpenServer, Server};
-use plc_console::{Desk, DeskClient, Entrance};
+use modbus_server::{OpenServer, Server, Shown};
+use plc_console::{Console, Desk, DeskClient, Entrance, OpenConsole};
 use plc_driver::{Directory, Driver, Ended};
-use plc_host::{Failed, Host, ServiceRuntime};
+use plc_host::{Failed, Host, ServiceRuntime, Traffic};
 use plc_listener::{Door, DoorRuntime};
-use plc_page::Whose;
-use plc_services::{About, Display, Notes, OpenServices, Operated, Outputs, Services, both};
+use plc_page::{OpenPage, Page, Showing};
 use plc_settings::{ConsoleAt, Operators, Settings};
-use plc_status::{Counts, Journal, Printer, StatusWriter, tell_port};
+use plc_status::{Counts, Journal, Printer, StatusReader, StatusWriter, tell_port};
 use std::alloc::{AllocError, Global};
-use std::mem;
 use std::net::{Net, SocketAddr, TcpListener, TcpStream};
 use std::rt::Files;
 use std::sync::Arc;
@@ -28,11 +27,64 @@ use std::time::{Duration, Instant};
 use vr_model::ClientNumber;
 use vr_ports::Relink;
 
+/// So many sessions are served at once.
+const SESSIONS: usize = 16;
+
 /// The console's number among the clients of the group. The stores are new, so it never started before.
 const CONSOLE: DeskClient = DeskClient {
     number: ClientNumber { number: 1 },
     starts: 0,
 };
+
+/// What is kept of clients and of an operator: what counts their requests, where commands are noted, and what shows of
+/// the controller.
+#[derive(Drop)]
+pub(crate) struct Kept {
+    pub(crate) traffic: Arc<Traffic>,
+    pub(crate) console: Journal,
+    pub(crate) status: StatusReader,
+    pub(crate) shown: ToShow,
+    pub(crate) operators: Operators,
+}
+
+/// Where it's noted what an operator does at the console, and what becomes of the page.
+#[derive(Drop)]
+pub(crate) struct Notes {
+    pub(crate) console: Journal,
+    pub(crate) page: Journal,
+}
+
+impl Kept {
+    /// What is kept of a controller that began then, by what shows of it. It fails only where memory runs out.
+    pub(crate) fn of(
+        alloc: Global,
+        status: &StatusWriter,
+        notes: Notes,
+        showing: Option<Showing>,
+        begun: Instant,
+    ) -> Result<Kept, AllocError> {
+        let Notes { console, page } = notes;
+        let shown = ToShow {
+            status: status.reader()?,
+            begun,
+            has_changed: Arc::new(alloc, AtomicBool::new(false))?,
+            journal: page,
+            showing,
+        };
+        Ok(Kept {
+            traffic: status.traffic()?,
+            console,
+            status: status.reader()?,
+            shown,
+            operators: Operators::by_port(),
+        })
+    }
+
+    /// The same, with operators who come so.
+    pub(crate) fn with(self, operators: Operators) -> Kept {
+        Kept { operators, ..self }
+    }
+}
 
 /// What outputs are released to: it marks when.
 pub(crate) type Releases<J, R> = ReleasedWriter<J, MarkingPen<SharedPen<J, R>, R>>;
@@ -41,13 +93,15 @@ pub(crate) type Releases<J, R> = ReleasedWriter<J, MarkingPen<SharedPen<J, R>, R
 #[derive(Drop)]
 pub(crate) struct Ready<R: ServiceRuntime, L: Relink + Drop, J: Naming> {
     server: Server<R, J>,
-    services: Services<R, L, J>,
+    console: Option<Console<R, L>>,
+    page: Option<Page<R, J>>,
 }
 
 /// What takes connections. It can't be let go of but by `close`, which joins its threads.
 pub(crate) struct Open<R: ServiceRuntime, L: Relink + Drop, J: Naming> {
     server: OpenServer<R, J>,
-    services: OpenServices<R, L, J>,
+    console: Option<OpenConsole<R, L>>,
+    page: Option<OpenPage<R, J>>,
     /// The inputs that the sessions stage.
     stage: Arc<Stage>,
 }
@@ -58,113 +112,139 @@ where
     L: Relink + Send + Drop + 'static,
     J: Naming + Send + Sync + 'static,
 {
-    /// Listens at the ports that the settings of this controller name, which begins then, with a place for each
-    /// session. A console takes the last of these links. Beside it what the outputs are released to.
-    pub(crate) fn new<S: Drop>(
+    /// Listens at the ports that the settings name, with a place for each session. A console takes the last of these
+    /// links. `kept` has what is kept of clients and of an operator. Beside it what the outputs are released to.
+    pub(crate) fn new(
         host: Host<R>,
         list: NewList,
-        node: &mut Node<'_, S>,
+        settings: &Settings,
+        image: &Image,
         links: &mut Vec<L>,
-        begun: Instant,
-        notes: Notes,
+        kept: Kept,
     ) -> Result<(Ready<R, L, J>, Releases<J, R>), Failed>
         requires { list ≡ J.book }
-        ensures released { IfOk result (λ r. r.1 ≡ []) }
-        ensures same { node.new.settings ≡ node.old.settings }
+        ensures { IfOk result (λ r. r.1 ≡ []) }
     {
-        let (Notes { console, page }, (changed, has_changed)) = both(notes, flag(host.alloc))?;
-        let operated = node.operated(host, links, console, changed);
-        let ((page, has_changed), operated) = both((page, has_changed), operated)?;
-        let sessions = sessions::<R, J>(host, list, &node.settings, &node.status);
-        let ((page, has_changed, operated), (server, writer, released)) = both(
-            (page, has_changed, operated),
-            sessions,
-        )?;
-        let display = Display {
-            address: node.settings.status,
-            showing: node.showing.take(),
-            released,
-            has_changed,
-            journal: page,
+        let Host { rt, alloc } = host;
+        let Kept {
+            traffic,
+            console: journal,
+            status,
+            shown,
+            operators,
+        } = kept;
+        let idle = Duration::from_secs(u64::from(settings.idle));
+        let operator = Operator {
+            journal,
+            status,
+            changed: Arc::try_clone(&shown.has_changed)?,
+            operators,
         };
-        let services = Services::new(host, node.about(begun), operated, display);
-        let ((server, writer), services) = both((server, writer), services)?;
-        Ok((Ready { server, services }, writer))
+        let console = operator.console(host, settings, image, links)?;
+        let door = door_at(&rt, settings.port)?;
+        let Ok((writer, mut readers)) = released::<J, R>(list, alloc, rt, SESSIONS + 1) else {
+            return Err(Failed::Memory);
+        };
+        let Some(reader) = readers.pop() else {
+            return Err(Failed::Memory);
+        };
+        let page = shown.page(host, settings, image, reader)?;
+        let stamp = Arc::new(alloc, Stamp::new(rt)?)?;
+        let writer = writer.marked(Arc::try_clone(&stamp)?);
+        let outputs = Shown {
+            readers,
+            stamp,
+            limit: settings.stale,
+        };
+        let server = Server::new(host, door, outputs, idle, traffic)?;
+        let ready = Ready {
+            server,
+            console,
+            page,
+        };
+        Ok((ready, writer))
     }
 
     /// Takes connections, if each replica has its file in the directory: one whose file could not be made is down. The
-    /// console is opened first, then the page; both are closed where the sessions can't be.
+    /// console is opened first, and closed where the sessions can't be.
     pub(crate) fn open(
         self,
         host: Host<R>,
         directory: Directory<'_>,
     ) -> Result<Open<R, L, J>, Failed> {
-        let full = directory.check_full(host.rt, host.alloc);
-        let (ready, ()) = both(self, full)?;
-        let Ready { server, services } = ready;
-        let (server, services) = both(server, services.open())?;
+        directory.check_full(host.rt, host.alloc)?;
+        let Ready {
+            server,
+            console,
+            page,
+        } = self;
+        let console = match console {
+            Some(console) => Some(console.open()?),
+            None => None,
+        };
+        let page = match opened_page(page) {
+            Ok(page) => page,
+            Err(failed) => {
+                close_console(console);
+                return Err(failed);
+            }
+        };
         match opened(server) {
             Ok((server, stage)) => Ok(Open {
                 server,
-                services,
+                console,
+                page,
                 stage,
             }),
             Err(failed) => {
-                services.close();
+                close_page(page);
+                close_console(console);
                 Err(failed)
             }
         }
     }
 }
 
-/// What is set once another program may be in force than the one that was served at first: for who sets it, and for who
-/// looks at it.
-fn flag(alloc: Global) -> Result<(Arc<AtomicBool>, Arc<AtomicBool>), AllocError> {
-    let flag = Arc::new(alloc, AtomicBool::new(false))?;
-    let again = Arc::try_clone(&flag)?;
-    Ok((flag, again))
+/// What a console works with, beside its link to the group, and how operators come to it.
+#[derive(Drop)]
+struct Operator {
+    journal: Journal,
+    status: StatusReader,
+    /// Set once another program may be in force.
+    changed: Arc<AtomicBool>,
+    operators: Operators,
 }
 
-impl<S: Drop> Node<'_, S> {
-    /// Whose console and page these are, of a controller that begins then.
-    fn about(&self, begun: Instant) -> About<'_> {
-        About {
-            whose: Whose::Group(self.settings.config.group_size()),
-            image: &self.image,
-            status: &self.status,
-            period: self.settings.period,
-            begun,
-        }
-    }
-
-    /// What its console is made of, if one is asked for. It takes the last of these links, and notes there what an
-    /// operator does.
-    fn operated<R, L>(
-        &mut self,
+impl Operator {
+    /// The console, if one is asked for, which takes no connection yet. It takes the last of these links.
+    fn console<R, L>(
+        self,
         host: Host<R>,
+        settings: &Settings,
+        image: &Image,
         links: &mut Vec<L>,
-        journal: Journal,
-        changed: Arc<AtomicBool>,
-    ) -> Result<Option<Operated<R, L>>, Failed>
+    ) -> Result<Option<Console<R, L>>, Failed>
     where
-        R: DoorRuntime,
-        L: Relink + Drop,
-        ensures { (self.new.settings ≡ self.old.settings) × (vec_len self.new.stores ≡ vec_len self.old.stores) }
+        R: DoorRuntime + Files,
+        L: Relink + Send + Drop + 'static,
     {
-        let settings = self.settings;
+        let Operator {
+            journal,
+            status,
+            changed,
+            operators,
+        } = self;
         let Some(at) = settings.console else {
-            drop((journal, changed));
             return Ok(None);
         };
-        let link = links.pop().ok_or(Failed::Device);
-        let ((journal, changed), link) = both((journal, changed), link)?;
-        let operators = mem::replace(&mut self.operators, Operators::by_port());
-        let entrance = entrance(host, at, operators, settings.idle);
-        let ((journal, changed, link), entrance) = both((journal, changed, link), entrance)?;
+        let Some(link) = links.pop() else {
+            return Err(Failed::Device);
+        };
+        let entrance = entrance(host, at, operators, settings.idle)?;
         let period = Duration::from_millis(u64::from(settings.period));
         let desk = Desk::new(host, settings.config, CONSOLE, link, period, journal);
         let desk = desk.telling_changes(changed);
-        Ok(Some(Operated { entrance, desk }))
+        Ok(Some(Console::new(host, entrance, desk, image, status)?))
     }
 }
 
@@ -205,38 +285,6 @@ fn door_at<R: Net<Listener = TcpListener, Stream = TcpStream>>(
     }
 }
 
-/// What serves clients, what the outputs are released to, and who reads them for a page.
-type Sessions<R, J> = (Server<R, J>, Releases<J, R>, ReleasedReader<J>);
-
-/// What serves clients at the port that the settings name. It takes no connection yet.
-fn sessions<R, J>(
-    host: Host<R>,
-    list: NewList,
-    settings: &Settings,
-    status: &StatusWriter,
-) -> Result<Sessions<R, J>, Failed>
-where
-    R: DoorRuntime + Files,
-    J: Naming + Send + Sync + 'static,
-    requires { list ≡ J.book }
-    ensures { IfOk result (λ r. r.1 ≡ []) }
-{
-    let door = door_at(&host.rt, settings.port)?;
-    let (door, traffic) = both(door, status.traffic())?;
-    let outputs = Outputs::<R, J, SharedPen<J, R>>::new(host, list, settings.stale);
-    let ((door, traffic), outputs) = both((door, traffic), outputs)?;
-    let Outputs {
-        writer,
-        stamp,
-        shown,
-        reader,
-    } = outputs;
-    let idle = Duration::from_secs(u64::from(settings.idle));
-    let server = Server::new(host, door, shown, idle, traffic);
-    let ((writer, stamp, reader), server) = both((writer, stamp, reader), server)?;
-    Ok((server, writer.marked(stamp), reader))
-}
-
 /// Opens the sessions. Beside them the inputs that they stage.
 fn opened<R, J>(server: Server<R, J>) -> Result<(OpenServer<R, J>, Arc<Stage>), Failed>
 where
@@ -250,6 +298,15 @@ where
             server.close();
             Err(Failed::Memory)
         }
+    }
+}
+
+/// Ends a console, if there is one.
+fn close_console<R: ServiceRuntime, L: Relink + Send + Drop + 'static>(
+    console: Option<OpenConsole<R, L>>,
+) {
+    if let Some(console) = console {
+        console.close();
     }
 }
 
@@ -275,13 +332,15 @@ where
     {
         let Open {
             server,
-            services,
+            console,
+            page,
             stage,
         } = self;
         tell_port(err, server.port());
         let driven = driver.run(rt, stage, &mut printer, err);
         let (sessions, writes) = server.close();
-        services.close();
+        close_page(page);
+        close_console(console);
         let Ended {
             mut journal,
             counts,
