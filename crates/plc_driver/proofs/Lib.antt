@@ -1,3 +1,2 @@
 mod Noted
 mod Printed
-mod Counting

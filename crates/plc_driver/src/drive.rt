@@ -1,31 +1,31 @@
 //! The driver of a group: the client that has it scan once a period, and publishes what it releases.
 
-ghost use Rattle.std.specs.Prelude.{◌≡◌, ◌+◌, ◌++◌, ◌∷◌, ◌*◌, [], if◌then◌else◌, OnOk, IfOk};
-ghost use Rattle.std.specs.Prelude.{Some, length, vec_len};
+ghost use Rattle.std.specs.Prelude.{◌≡◌, ◌+◌, ◌*◌, if◌then◌else◌, min, OnOk, OnErr, IfOk, IfSome, IfNone, List, length};
+ghost use Rattle.std.specs.Prelude.{Some, false, vec_len};
 ghost use Rattle.std.specs.Duration.{as_nanos};
 ghost use Rattle.vr_model.specs.Groups.{group_size};
+ghost use Rattle.il_model.specs.declared.command.Command.{Command as Asked};
+ghost use Rattle.vr_model.specs.Logs.{Request as Entry};
+ghost use Rattle.vr_model.specs.StandsFor.{body_with};
+ghost use Rattle.io_driver.specs.Driver.{release_by};
 ghost use Rattle.plc_status.specs.Journal.{AreNoted};
 ghost use Rattle.plc_status.specs.Scans.{after_scan, IsHaltNoted, halted};
-ghost use Rattle.plc_driver.specs.Driving.{Answers, AsksForScan, HasRun, Hears, counts_since, due_in, scan_of};
+ghost use Rattle.plc_driver.specs.Driving.{AsksForScan, HasRun, Publishes, Scans, scan_of};
 
 use crate::crashes::Crashes;
 use crate::group::Group;
-use crate::scanning::{Came, scan_client};
+use crate::pace::{Came, Pace};
 use il_loader::Image;
-use io_image::{Naming, Pen, Release, ReleasedWriter, Staging};
+use io_driver::ScanDriver;
+use io_image::{Naming, Pen, ReleasedWriter, Staging};
 use plc_host::{Failed, Host, ServiceRuntime};
-use plc_node_core::{Answered, ScanClient};
 use plc_settings::Settings;
 use plc_status::{Halt, Journal, Notice, Scan, StatusWriter, halt_in};
 use std::sync::Wait;
-use std::thread;
 use std::time::{Clock, Duration, Instant};
 use vr_model::Message;
 use vr_ports::{Input, Relink, send_all};
 use vr_threads::{ClusterThreads, Starts};
-
-/// In milliseconds: the longest that it sleeps at once before a scan is due.
-const NAP: u64 = 500;
 
 /// What is noted of a scan that was held or stopped by this, or goes on.
 fn halted(halt: Option<Halt>) -> Notice
@@ -70,22 +70,18 @@ where
     P: Pen<J> + Drop,
 {
     host: Host<R>,
-    /// Since when the moments of scans are counted.
-    begun: Instant,
-    client: ScanClient,
+    driver: ScanDriver,
     link: L,
     pub writer: ReleasedWriter<J, P>,
     group: Group<R, L>,
+    pace: Pace,
     crashes: Crashes,
-    /// How the scan came that was submitted last.
-    came: Came,
     /// By what the last scan was held or stopped, if it was.
     halt: Option<Halt>,
     pub journal: Journal,
     /// After so many releases it ends; without a number it goes on.
     pub scans: Option<u32>,
     status: StatusWriter,
-    ghost counts: { counts_since client.driver.course ≡ Some (0, 0) },
 }
 
 impl<R, L, J, P> Drive<R, L, J, P>
@@ -107,8 +103,7 @@ where
         ensures writer { IfOk result (λ r. r.0.writer ≡ parts.writer) }
         ensures journal { IfOk result (λ r. r.0.journal ≡ parts.journal) }
         ensures scans { IfOk result (λ r. r.0.scans ≡ settings.now.scans) }
-        ensures period { IfOk result (λ r. as_nanos r.0.client.driver.pace.period ≡ settings.now.period * 1_000_000) }
-        ensures due { IfOk result (λ r. due_in r.0.client.driver.course ≡ Some 0) }
+        ensures period { IfOk result (λ r. as_nanos r.0.pace.period ≡ settings.now.period * 1_000_000) }
     {
         let Parts {
             mut links,
@@ -121,17 +116,15 @@ where
         let Some(link) = links.pop() else {
             return Err(Failed::Device);
         };
-        let client = scan_client(settings)?;
-        let came = Came::now(&client, Duration::from_millis(0));
+        let pace = Pace::new(begun, settings.period);
         let (group, threads) = Group::start(host, image, settings, links, stores)?;
         let drive = Drive {
             host,
-            begun,
-            client,
+            driver: ScanDriver::new(&settings.config, 0),
             link,
             writer,
             group,
-            came,
+            pace,
             crashes: Crashes::new(settings.config, settings.crash),
             halt: None,
             journal,
@@ -200,47 +193,32 @@ where
     {
         let rt = self.host.rt;
         for _ in rt.forever() {
-            if self.turn(staging)? {
+            self.rest()?;
+            let came = self.submit(staging)?;
+            let scanned = self.await_reply()?;
+            self.note_halt(scanned.halt);
+            self.show_scan(came, scanned);
+            if scanned.is_released {
                 return Ok(());
             }
         }
         unreachable!()
     }
 
-    /// Looks at the replicas, does what is due, and receives once, where a scan waits for its reply; where none does it
-    /// sleeps before that, until the next one is due. Whether a scan was released.
-    #[tactic(auto, using(crate::proofs::Counting::counted, crate::proofs::Noted::both, crate::proofs::Noted::none))]
-    fn turn<T: Staging>(&mut self, staging: &mut T) -> Result<bool, Failed>
-        ensures counted { IfOk result
-            (λ is_released. length self.new.writer ≡ length self.old.writer + (if is_released then 1 else 0)) }
+    /// Sleeps until the next scan is nearly due, and looks at the replicas meanwhile.
+    #[tactic(auto, using(crate::proofs::Noted::both, crate::proofs::Noted::none, crate::proofs::Noted::one))]
+    fn rest(&mut self) -> Result<(), Failed>
+        ensures same { self.new.writer ≡ self.old.writer }
         ensures noted { AreNoted self.old.journal self.new.journal }
     {
-        self.tend()?;
-        self.rest()?;
-        self.act(staging)?;
-        match self.hear()? {
-            Some(scanned) => {
-                self.tell(scanned);
-                Ok(scanned.is_released)
+        let rt = self.host.rt;
+        for _ in rt.forever() {
+            self.tend()?;
+            if self.pace.rest(&self.host.rt)? {
+                return Ok(());
             }
-            None => Ok(false),
         }
-    }
-
-    /// How long it is since the beginning.
-    fn elapsed(&self) -> Result<Duration, Failed> {
-        Ok(Instant::now(&self.host.rt)?.saturating_duration_since(self.begun))
-    }
-
-    /// Sleeps until the next scan is due, for a while at most. While one waits for its reply it doesn't sleep.
-    fn rest(&self) -> Result<(), Failed> {
-        if self.client.is_waiting() {
-            return Ok(());
-        }
-        let now = self.elapsed()?;
-        let nap = now.saturating_add(Duration::from_millis(NAP));
-        thread::sleep(&self.host.rt, self.client.woken_by(nap).saturating_sub(now));
-        Ok(())
+        unreachable!()
     }
 
     /// Looks at the replicas, and has those started anew that are due.
@@ -248,129 +226,126 @@ where
         ensures same { self.new.writer ≡ self.old.writer }
         ensures noted { AreNoted self.old.journal self.new.journal }
     {
-        let now = self.elapsed()?;
+        let now = self.pace.elapsed(&self.host.rt)?;
         self.group.tend(now, &mut self.journal)?;
         self.group.show(&mut self.status);
         self.status.publish();
         Ok(())
     }
 
-    /// Notes and counts what came of a scan.
-    #[tactic(auto, using(crate::proofs::Noted::both, crate::proofs::Noted::none, crate::proofs::Noted::one))]
-    fn tell(&mut self, scanned: Scanned)
-        ensures same { self.new.writer ≡ self.old.writer }
-        ensures noted { AreNoted self.old.journal self.new.journal }
-    {
-        self.note_halt(scanned.halt);
-        self.show_scan(scanned);
-    }
-
-    /// Counts the scan that was submitted last, with what came of it, and publishes what shows of the scans.
-    fn show_scan(&mut self, scanned: Scanned)
-        ensures counted { self.new.status.scans ≡ after_scan self.old.status.scans (scan_of self.old.came scanned) }
+    /// Counts a scan that came so, with what came of it, and publishes what shows of the scans.
+    fn show_scan(&mut self, came: Came, scanned: Scanned)
+        ensures counted { self.new.status.scans ≡ after_scan self.old.status.scans (scan_of came scanned) }
         ensures same { (self.new.writer ≡ self.old.writer) × (self.new.journal ≡ self.old.journal) }
     {
         self.status.scanned(Scan {
-            at: self.came.at,
-            is_late: self.came.is_late,
+            at: came.at,
+            is_late: came.is_late,
             is_released: scanned.is_released,
             halt: scanned.halt,
         });
         self.status.publish();
     }
 
-    /// Does what is due: submits a scan, or asks for the one again that waits.
-    fn act<T: Staging>(&mut self, staging: &mut T) -> Result<(), Failed>
+    /// Waits until a scan is due, and submits the scan of a sample of the staged inputs: how it came. Where the numbers
+    /// of requests are used up a device failed.
+    fn submit<T: Staging>(&mut self, staging: &mut T) -> Result<Came, Failed>
+        ensures asked { IfOk result (λ came. AsksForScan (as_nanos self.old.pace.period) (as_nanos self.old.pace.due)
+            (as_nanos self.new.pace.due) came self.old.driver self.new.driver (T.told staging.old)
+            (T.told staging.new) (L.sent self.old.link) (L.sent self.new.link)) }
         ensures same { (self.new.writer ≡ self.old.writer) × (self.new.journal ≡ self.old.journal) }
     {
-        let now = self.elapsed()?;
-        if self.client.is_asked_again(now) {
-            // Where memory is wanting, that's put off until the next time.
-            if let Some(sends) = self.client.again(self.host.alloc, now) {
-                send_all(&mut self.link, sends);
-            }
-            return Ok(());
-        }
-        if self.client.is_waiting() || !self.client.is_scan_due(now) {
-            return Ok(());
-        }
-        self.submit(staging, now)
-    }
-
-    /// Submits the scan of a sample of the staged inputs, which is due now. Where the numbers of requests are used up a
-    /// device failed.
-    #[tactic(auto, using(crate::proofs::Counting::sampled, crate::proofs::Counting::counts_on))]
-    fn submit<T: Staging>(&mut self, staging: &mut T, now: Duration) -> Result<(), Failed>
-        ensures asked { OnOk result (AsksForScan now self.new.came self.old.client self.new.client
-            (T.told staging.old) (T.told staging.new) (L.sent self.old.link) (L.sent self.new.link)) }
-        ensures same { (self.new.writer ≡ self.old.writer) × (self.new.journal ≡ self.old.journal) }
-    {
-        let came = Came::now(&self.client, now);
-        let Some(sends) = self.client.submit(self.host.alloc, staging, now)? else {
+        let came = self.pace.await_scan(&self.host.rt)?;
+        let Some(sends) = self
+            .driver
+            .sample_and_submit(self.host.alloc, staging, came.moment)?
+        else {
             return Err(Failed::Device);
         };
-        self.came = came;
         send_all(&mut self.link, sends);
-        Ok(())
+        Ok(came)
     }
 
-    /// Receives once, if a scan waits for its reply. Where that comes, what it releases is published, and this is what
+    /// Waits for the reply to the scan, and publishes what it releases; it asks again where no reply comes for a while,
+    /// and looks at the replicas meanwhile.
+    #[tactic(auto, using(crate::proofs::Noted::both, crate::proofs::Noted::none, crate::proofs::Noted::one))]
+    fn await_reply(&mut self) -> Result<Scanned, Failed>
+        ensures scanned { IfOk result (λ scanned. Scans scanned self.old.writer self.new.writer) }
+        ensures counted { IfOk result
+            (λ scanned. length self.new.writer ≡ length self.old.writer + (if scanned.is_released then 1 else 0)) }
+        ensures noted { AreNoted self.old.journal self.new.journal }
+    {
+        let mut asked = self.pace.elapsed(&self.host.rt)?;
+        let rt = self.host.rt;
+        for _ in rt.forever() {
+            if let Some(scanned) = self.hear()? {
+                return Ok(scanned);
+            }
+            asked = self.ask_again(asked)?;
+            self.tend()?;
+        }
+        unreachable!()
+    }
+
+    /// Receives once. Where that brings the reply that is waited for, what it releases is published, and this is what
     /// came of the scan.
     fn hear(&mut self) -> Result<Option<Scanned>, Failed>
-        ensures heard { IfOk result (λ heard. Hears heard self.old.writer self.new.writer) }
+        ensures scanned { IfOk result
+            (λ heard. IfSome heard (λ scanned. Scans scanned self.old.writer self.new.writer)) }
+        ensures counted { IfOk result
+            (λ heard. IfSome heard
+            (λ scanned. length self.new.writer ≡ length self.old.writer + (if scanned.is_released then 1 else 0))) }
+        ensures kept { IfOk result (λ heard. IfNone heard (self.new.writer ≡ self.old.writer)) }
         ensures same { self.new.journal ≡ self.old.journal }
     {
-        if !self.client.is_waiting() {
-            return Ok(None);
-        }
         match self.link.recv() {
-            Input::Message(message) => self.take(&message),
+            Input::Message(message) => {
+                let is_released = self.take(&message)?;
+                if !is_released && self.driver.is_waiting() {
+                    return Ok(None);
+                }
+                Ok(Some(Scanned {
+                    halt: halt_in(&message),
+                    is_released,
+                }))
+            }
             Input::Nothing => Ok(None),
             Input::Closed => Err(Failed::Connection),
         }
     }
 
-    /// Takes a message of the group: what came of the scan that waits, if it's its reply. Then what it releases is
-    /// published.
-    fn take(&mut self, message: &Message) -> Result<Option<Scanned>, Failed>
-        ensures heard { IfOk result (λ heard. Hears heard self.old.writer self.new.writer) }
-        ensures same { self.new.journal ≡ self.old.journal }
+    /// Asks again where it's time since it asked last: when it asked last. Where memory is wanting, that's put off until
+    /// the next time.
+    fn ask_again(&mut self, asked: Duration) -> Result<Duration, Failed>
+        ensures same { (self.new.writer ≡ self.old.writer) × (self.new.journal ≡ self.old.journal) }
     {
-        let halt = halt_in(message);
-        let answered = self.client.reply(message);
-        self.answer(answered, halt)
-    }
-
-    /// Publishes what the scan that waits released, if anything, by what a message made of it: what came of the scan,
-    /// if that was its reply. By this it was held or stopped, if it was.
-    fn answer(&mut self, answered: Answered, halt: Option<Halt>) -> Result<Option<Scanned>, Failed>
-        ensures answered { IfOk result (λ heard. Answers answered halt heard self.old.writer self.new.writer) }
-        ensures same { (self.new.journal ≡ self.old.journal) × (self.new.client ≡ self.old.client) }
-    {
-        match answered {
-            Answered::Nothing => Ok(None),
-            Answered::Held { .. } => Ok(Some(Scanned {
-                halt,
-                is_released: false,
-            })),
-            Answered::Released(release) => {
-                self.publish(release)?;
-                Ok(Some(Scanned {
-                    halt,
-                    is_released: true,
-                }))
-            }
+        let now = self.pace.elapsed(&self.host.rt)?;
+        if now.saturating_sub(asked) < self.pace.longest_silence() {
+            return Ok(asked);
         }
+        if let Ok(sends) = self.driver.retry(self.host.alloc) {
+            send_all(&mut self.link, sends);
+        }
+        Ok(now)
     }
 
-    /// Publishes this.
-    fn publish(&mut self, release: Release) -> Result<(), Failed>
-        ensures published { OnOk result (self.new.writer ≡ self.old.writer ++ release ∷ []) }
-        ensures same { (self.new.journal ≡ self.old.journal) × (self.new.client ≡ self.old.client) }
+    /// Takes a message of the group. Whether it was the reply that is waited for: then what it releases is published.
+    fn take(&mut self, message: &Message) -> Result<bool, Failed>
+        ensures published { IfOk result (λ is_released. (log : List (Entry Asked))
+            → Publishes (release_by self.old.driver.state
+            (body_with log message.now.body)) is_released self.old.writer self.new.writer) }
+        ensures counted { IfOk result
+            (λ is_released. length self.new.writer ≡ length self.old.writer + (if is_released then 1 else 0)) }
+        ensures kept { IfOk result (λ is_released. is_released ≡ false → self.new.writer ≡ self.old.writer) }
+        ensures same { OnErr result (self.new.writer ≡ self.old.writer) }
+        ensures journal { self.new.journal ≡ self.old.journal }
     {
+        let Some(release) = self.driver.on_reply(message) else {
+            return Ok(false);
+        };
         // Numbers of requests rise, so only memory can be wanting.
         match self.writer.publish(release) {
-            Ok(()) => Ok(()),
+            Ok(()) => Ok(true),
             Err(_) => Err(Failed::Memory),
         }
     }

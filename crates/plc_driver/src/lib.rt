@@ -11,13 +11,13 @@
 //! printer.finish(&mut journal, &mut err);
 //! ```
 //!
-//! Proved: each scan that is submitted was due, and has a sample of the inputs and the moment at which it came; the
-//! driver publishes just what its replies release (`specs/Driving`), and ends well only after exactly so many releases,
-//! where a number is given; what is put into the journal of a replica or a scan is by what was seen (`specs/Watching`);
-//! who crashes on purpose, and when one is started anew (`specs/Tending`); what is printed while it runs are lines of
-//! what was noted, in order, and the journal that it leaves goes on that with which it was started. When a scan is due,
-//! and asked for again, is said by `ScanClient` of plc_node_core: the driver is a machine that leads from the beginning
-//! on. Saves of its replicas that failed are tried again by `PatientStore` of vr_threads.
+//! Proved: each scan that is submitted has a sample of the inputs and the moment at which it came; the driver publishes
+//! just what its replies release (`specs/Driving`), and ends well only after exactly so many releases, where a number is
+//! given; the scan after one is due a period later, or a period after one that came late (`specs/Driving`); what is put
+//! into the journal of a replica or a scan is by what was seen (`specs/Watching`); who crashes on purpose, and when one
+//! is started anew (`specs/Tending`); what is printed while it runs are lines of what was noted, in order, and the
+//! journal that it leaves goes on that with which it was started. Saves of its replicas that failed are tried again by
+//! `PatientStore` of vr_threads.
 //!
 //! Only tested: that the replicas of a group scan, crash and come back, and what clients see of it
 //! (`tools/try-serve`). Nothing says when a scan comes, or that one does.
@@ -29,13 +29,13 @@ mod drive;
 mod driving;
 mod group;
 mod links;
+mod pace;
 mod reviving;
 mod saving;
-mod scanning;
 mod watch;
 
 pub use directory::{Directory, Taken};
 pub use drive::Parts;
 pub use driving::{Driven, Driver, DriverCounts, Ended};
 pub use links::GroupLinks;
-pub use scanning::worked_dues;
+pub use pace::worked_dues;
