@@ -67,7 +67,7 @@ IsFound (wants.Text text) = Unit {0}
 IsFound (wants.Image image) = Unit {0}
 IsFound (wants.Asked console) = ⊥
 
--- the program of an origin: of the console that is named by an address; at a path of the console at that socket, or what
+-- the program of an origin: that of the console at an address; at a path, that of the console at this socket, or what
 -- was found there
 abbrev pub IsWanted : Origin → Fetching → Wanted → Type 0
 IsWanted (origins.Console address) fetching (wants.Asked console) =
@@ -91,8 +91,8 @@ IsSide origin fetching side = IsWanted origin fetching side.wanted
 abbrev pub IsComparison : Origin → Origin → Fetching → Comparison → Type 0
 IsComparison old new fetching comparison = IsSide old fetching comparison.old × IsSide new fetching comparison.new
 
--- A controller is to be served, a console asked, a field carried, a program fetched or two compared only where the words
--- ask for it, and with just the settings that they name. All else is done at once.
+-- A controller is to be served, a console asked, a field carried, a program fetched or two compared only where the
+-- words ask for it, and with just the settings that they name. All else is done at once.
 abbrev pub IsAsAsked : Words → Outcome → Type 0
 IsAsAsked asked (outcomes.Done status) = Unit {0}
 IsAsAsked (words.Serve source stores report settings operators) (outcomes.Serve serving) = serving.service.settings ≡ settings
