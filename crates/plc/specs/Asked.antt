@@ -61,19 +61,17 @@ abbrev pub AsksToChange : AskedConsole → Asking → Type 0
 AsksToChange asked asking = IsConsole asked asking.console
     × (text : List ℕ) × IsChangeAlone text (map bytes_of asking.lines.items)
 
--- a program that was found, of a text or of a store
-abbrev pub IsFound : Wanted → Type 0
-IsFound (wants.Text text) = Unit {0}
-IsFound (wants.Image image) = Unit {0}
-IsFound (wants.Asked console) = ⊥
+-- the console at a place, asked as words say
+abbrev pub console_at : Named → Fetching → AskedConsole
+console_at place fetching = record { place = place; timeout = fetching.timeout; key = fetching.key }
 
 -- the program of an origin: that of the console at an address; at a path, that of the console at this socket, or what
 -- was found there
 abbrev pub IsWanted : Origin → Fetching → Wanted → Type 0
 IsWanted (origins.Console address) fetching (wants.Asked console) =
-    IsConsole (record { place = named.Address address; timeout = fetching.timeout; key = fetching.key }) console
+    IsConsole (console_at (named.Address address) fetching) console
 IsWanted (origins.Path path) fetching (wants.Asked console) =
-    IsConsole (record { place = named.Socket path; timeout = fetching.timeout; key = fetching.key }) console
+    IsConsole (console_at (named.Socket path) fetching) console
 IsWanted (origins.Path path) fetching wanted = Unit {0}
 IsWanted (origins.Console address) fetching wanted = ⊥
 

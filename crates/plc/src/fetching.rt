@@ -1,7 +1,7 @@
 //! Programs that are wanted: of a console, of a store, or of a text; and where one is written.
 
 ghost use Rattle.std.specs.Prelude.{◌≡◌, IfOk, string_bytes};
-ghost use Rattle.plc.specs.Asked.{IsConsole, IsFound, IsRequest, IsWanted};
+ghost use Rattle.plc.specs.Asked.{IsConsole, IsRequest, IsWanted, console_at};
 
 use crate::asking::{Console, NO_COMMAND, Place, tell_unanswered};
 use crate::calls::flushed;
@@ -52,7 +52,14 @@ impl Wanted {
                 let place = plc_words::Place::Socket(path);
                 Ok(Wanted::Asked(console_of(rt, place, fetching, err)?))
             }
-            Origin::Path(path) => wanted_at(rt, path, err),
+            Origin::Path(path) if is_directory(rt, path) => match image_in_force(rt, path) {
+                Ok(image) => Ok(Wanted::Image(image)),
+                Err(refusal) => Err(tell_at(path, refusal, err)),
+            },
+            Origin::Path(path) => match file(rt, path) {
+                Ok(text) => Ok(Wanted::Text(text)),
+                Err(fault) => Err(tell_of(path, fault, err)),
+            },
         }
     }
 }
@@ -64,11 +71,7 @@ fn console_of<E: CountedWrite>(
     fetching: Fetching,
     err: &mut E,
 ) -> Result<Console, u8>
-    ensures { IfOk result (IsConsole (record {
-      place = place.entry;
-      timeout = fetching.entry.timeout;
-      key = fetching.entry.key;
-    })) }
+    ensures { IfOk result (IsConsole (console_at place.entry fetching.entry)) }
 {
     let Fetching { timeout, key } = fetching;
     let asked = AskedConsole {
@@ -77,22 +80,6 @@ fn console_of<E: CountedWrite>(
         key,
     };
     Console::of(rt, asked, err)
-}
-
-/// The program of a directory's store, or of the text of a file; or the status where there is none, which is told.
-fn wanted_at<E: CountedWrite>(rt: &HostRuntime, path: &str, err: &mut E) -> Result<Wanted, u8>
-    ensures { IfOk result IsFound }
-{
-    if is_directory(rt, path) {
-        return match image_in_force(rt, path) {
-            Ok(image) => Ok(Wanted::Image(image)),
-            Err(refusal) => Err(tell_at(path, refusal, err)),
-        };
-    }
-    match file(rt, path) {
-        Ok(text) => Ok(Wanted::Text(text)),
-        Err(fault) => Err(tell_of(path, fault, err)),
-    }
 }
 
 fn is_directory(rt: &HostRuntime, path: &str) -> bool {
@@ -136,7 +123,7 @@ impl Request {
         target: Target,
         err: &mut E,
     ) -> Result<Request, u8>
-        ensures { IfOk result (IsRequest origin.entry fetching.entry target.path.now target.is_image) }
+        ensures { IfOk result (IsRequest origin.entry fetching.entry target.entry.path.now target.entry.is_image) }
     {
         let Target { path, is_image } = target;
         if path != STREAM && fs::metadata(rt, path).is_ok() {
