@@ -28,7 +28,7 @@
 //!
 //! By its code alone: that the time which a comparison takes tells nothing of how much of a wrong sum was right, since
 //! it looks at all bytes; that no key is printed, since a key has no text but the one of `Key::spell`. Rows with the
-//! vectors of RFC 4231 are to come; no link uses this crate yet. Not here: that nonces are fresh, and that whoever has
+//! vectors of RFC 4231 are to come. Not here: that nonces are fresh, and that whoever has
 //! the key keeps to this. Nothing is secret but the keys, and these stay in memory until it's used again.
 #![tactic(auto)]
 

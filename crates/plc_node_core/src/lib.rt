@@ -30,8 +30,8 @@
 //! and to close where none are. What ended it first stays, and from then on it only closes its port, cuts its
 //! replica's link and ends; one that leaves its epoch ends so only once its replica is served no longer.
 //!
-//! Where one process has all replicas of its group, and drives from the beginning on, `ScanClient::of_all` alone has
-//! them scan (`plc_driver`).
+//! `ScanClient::of_all` is for a process that has all replicas of its group, and drives from the beginning on; nothing
+//! calls it yet: `plc_driver` has a pace of its own.
 //!
 //! By the code of whoever asks it: that each action is done before the next one is asked for, and told back once it's
 //! done.
