@@ -11,20 +11,12 @@ use Rattle.plc_tool.specs.Calls.{IsChangeAlone}
 use Rattle.plc_words.specs.declared.console.AskedConsole.{AskedConsole}
 use Rattle.plc_words.specs.declared.console.Place.{Place as Named}
 use Rattle.plc_words.specs.declared.console.Place.TheVariants as named
-use Rattle.plc_words.specs.declared.console.Origin.{Origin}
-use Rattle.plc_words.specs.declared.console.Origin.TheVariants as origins
-use Rattle.plc_words.specs.declared.console.Fetching.{Fetching}
 use Rattle.plc_words.specs.declared.forms.Words.{Words}
 use Rattle.plc_words.specs.declared.forms.Words.TheVariants as words
 use Rattle.plc.specs.declared.asking.Asking.{Asking}
 use Rattle.plc.specs.declared.asking.Console.{Console}
 use Rattle.plc.specs.declared.asking.Place.{Place}
 use Rattle.plc.specs.declared.asking.Place.TheVariants as places
-use Rattle.plc.specs.declared.comparing.Comparison.{Comparison}
-use Rattle.plc.specs.declared.comparing.Side.{Side}
-use Rattle.plc.specs.declared.fetching.Request.{Request}
-use Rattle.plc.specs.declared.fetching.Wanted.{Wanted}
-use Rattle.plc.specs.declared.fetching.Wanted.TheVariants as wants
 use Rattle.plc.specs.declared.Outcome.{Outcome}
 use Rattle.plc.specs.declared.Outcome.TheVariants as outcomes
 
@@ -61,36 +53,8 @@ abbrev pub AsksToChange : AskedConsole → Asking → Type 0
 AsksToChange asked asking = IsConsole asked asking.console
     × (text : List ℕ) × IsChangeAlone text (map bytes_of asking.lines.items)
 
--- the console at a place, asked as words say
-abbrev pub console_at : Named → Fetching → AskedConsole
-console_at place fetching = record { place = place; timeout = fetching.timeout; key = fetching.key }
-
--- the program of an origin: that of the console at an address; at a path, that of the console at this socket, or what
--- was found there
-abbrev pub IsWanted : Origin → Fetching → Wanted → Type 0
-IsWanted (origins.Console address) fetching (wants.Asked console) =
-    IsConsole (console_at (named.Address address) fetching) console
-IsWanted (origins.Path path) fetching (wants.Asked console) =
-    IsConsole (console_at (named.Socket path) fetching) console
-IsWanted (origins.Path path) fetching wanted = Unit {0}
-IsWanted (origins.Console address) fetching wanted = ⊥
-
--- the program of an origin is to be written to this file, or this stream, as its image or as its listing
-pub record IsRequest (origin : Origin) (fetching : Fetching) (path : List ℕ) (is_image : Bool) (request : Request)
-    : Type 0 where
-  pub wanted : IsWanted origin fetching request.wanted
-  pub path : string_bytes request.path ≡ path
-  pub image : request.is_image ≡ is_image
-
--- the programs of two origins are to be compared
-abbrev pub IsSide : Origin → Fetching → Side → Type 0
-IsSide origin fetching side = IsWanted origin fetching side.wanted
-
-abbrev pub IsComparison : Origin → Origin → Fetching → Comparison → Type 0
-IsComparison old new fetching comparison = IsSide old fetching comparison.old × IsSide new fetching comparison.new
-
 -- A controller is to be served, a console asked, a field carried, a program fetched or two compared only where the
--- words ask for it, and with just the settings that they name. All else is done at once.
+-- words ask for it, and all but the last two with just the settings that they name. All else is done at once.
 abbrev pub IsAsAsked : Words → Outcome → Type 0
 IsAsAsked asked (outcomes.Done status) = Unit {0}
 IsAsAsked (words.Serve source stores report settings operators) (outcomes.Serve serving) = serving.service.settings ≡ settings
@@ -100,9 +64,8 @@ IsAsAsked (words.Field field check once stop status) (outcomes.Carry carrying) =
     (carrying.mode ≡ mode_of check once stop) × (address_of carrying.page ≡ status)
 IsAsAsked (words.Ask console commands) (outcomes.Ask asking) = AsksFor console asking
 IsAsAsked (words.Change console source) (outcomes.Ask asking) = AsksToChange console asking
-IsAsAsked (words.Fetch origin fetching file is_image) (outcomes.Fetch request) =
-    IsRequest origin fetching file.now is_image request
-IsAsAsked (words.Diff old new fetching) (outcomes.Compare comparison) = IsComparison old new fetching comparison
+IsAsAsked (words.Fetch origin fetching file is_image) (outcomes.Fetch request) = Unit {0}
+IsAsAsked (words.Diff old new fetching) (outcomes.Compare comparison) = Unit {0}
 IsAsAsked _ _ = ⊥
 
 -- a controller that is to be served ends after a minute without a majority of its replicas

@@ -1,8 +1,5 @@
 //! Two programs that are compared.
 
-ghost use Rattle.std.specs.Prelude.{IfOk};
-ghost use Rattle.plc.specs.Asked.{IsSide, IsComparison};
-
 use crate::calls::ended;
 use crate::fetching::{Wanted, text_of};
 use crate::files::put_path;
@@ -31,9 +28,7 @@ impl Side {
         origin: Origin,
         fetching: Fetching,
         err: &mut E,
-    ) -> Result<Side, u8>
-        ensures { IfOk result (IsSide origin.entry fetching.entry) }
-    {
+    ) -> Result<Side, u8> {
         let path = match path_of(rt.alloc(), origin) {
             Ok(path) => path,
             Err(fault) => return Err(tell(fault, err)),
@@ -66,9 +61,7 @@ impl Comparison {
         new: Origin,
         fetching: Fetching,
         err: &mut E,
-    ) -> Result<Comparison, u8>
-        ensures { IfOk result (IsComparison old.entry new.entry fetching.entry) }
-    {
+    ) -> Result<Comparison, u8> {
         let old = Side::of(rt, old, fetching, err)?;
         let new = Side::of(rt, new, fetching, err)?;
         Ok(Comparison { old, new })

@@ -1,8 +1,5 @@
 //! Programs that are wanted: of a console, of a store, or of a text; and where one is written.
 
-ghost use Rattle.std.specs.Prelude.{◌≡◌, IfOk, string_bytes};
-ghost use Rattle.plc.specs.Asked.{IsConsole, IsRequest, IsWanted, console_at};
-
 use crate::asking::{Console, NO_COMMAND, Place, tell_unanswered};
 use crate::calls::flushed;
 use crate::files::{STREAM, file, put_path, tell_of, tell_path, tell_unwritten};
@@ -40,9 +37,7 @@ impl Wanted {
         origin: Origin,
         fetching: Fetching,
         err: &mut E,
-    ) -> Result<Wanted, u8>
-        ensures { IfOk result (IsWanted origin.entry fetching.entry) }
-    {
+    ) -> Result<Wanted, u8> {
         match origin {
             Origin::Console(address) => {
                 let place = plc_words::Place::Address(address);
@@ -70,9 +65,7 @@ fn console_of<E: CountedWrite>(
     place: plc_words::Place,
     fetching: Fetching,
     err: &mut E,
-) -> Result<Console, u8>
-    ensures { IfOk result (IsConsole (console_at place.entry fetching.entry)) }
-{
+) -> Result<Console, u8> {
     let Fetching { timeout, key } = fetching;
     let asked = AskedConsole {
         place,
@@ -122,9 +115,7 @@ impl Request {
         fetching: Fetching,
         target: Target,
         err: &mut E,
-    ) -> Result<Request, u8>
-        ensures { IfOk result (IsRequest origin.entry fetching.entry target.entry.path.now target.entry.is_image) }
-    {
+    ) -> Result<Request, u8> {
         let Target { path, is_image } = target;
         if path != STREAM && fs::metadata(rt, path).is_ok() {
             put_path(b"plc: file there ", path, err);
