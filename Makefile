@@ -10,9 +10,11 @@
 # make field [TO=build/field.svg]             the motor at a Modbus coupler that is stopped and comes back, carried by plc field: ten seconds, and its picture (with build/plc)
 # make plc [JOBS=2]                           proves the program and builds it: build/plc; so many crates at once, or as many as there are processors and memory for
 # make simulate [WORDS="f=2 1..20"] [JOBS=2]    proves the simulator and runs groups of machines by virtual time from these seeds: build/sim_group (crates/sim_group/src/main.rt has its words)
-# make install [PREFIX=/usr/local] [DESTDIR=]  puts the proved program, its man page, the documents, number-lines, the examples and systemd units there
+# make install [PREFIX=/usr/local] [DESTDIR=]  puts the proved program, its man pages, completions of bash, the documents, number-lines, the examples and systemd units there
 # make uninstall [PREFIX=..] [DESTDIR=..]       takes away what install puts there
-# make test                                   the whole gate: that the rows of the examples are those of examples/, the table of crates is that of crates.txt, AUDIT names what is there and the pictures are those of examples/, then rt ci, and then what the program does that it has built
+# make deb                                    a Debian package of the proved program with all that install puts there: build/plc_VERSION_amd64.deb
+# make dist                                   the same files as build/plc-VERSION-linux-amd64.tar.gz, with their sums
+# make test                                   the whole gate: that the rows of the examples are those of examples/, the table of crates is that of crates.txt, AUDIT names what is there, REFERENCE says what the sources say, DECISIONS lists what there is, pages link to what is there, GATE says what its table comes to and the pictures are those of examples/, then rt ci, and then what the program does that it has built
 
 EXAMPLE ?= crossing
 IL = examples/$(EXAMPLE).il
@@ -25,7 +27,7 @@ PICTURE := $(if $(SCHEDULE),schedule,run)
 SCHEDULE ?= crash
 EVENTS = examples/motor_$(SCHEDULE).json
 
-.PHONY: demo standby serve picture picture-run picture-schedule failover failover-machines field plc simulate install uninstall test
+.PHONY: demo standby serve picture picture-run picture-schedule failover failover-machines field plc simulate install put uninstall deb dist test
 
 # make plc leaves the sum of the sources that it proved, and that of the program: so it's known whether build/plc is these
 # sources' proved program. Where it isn't, the same sources are built and run, unproved.
@@ -117,14 +119,22 @@ BIN = $(DESTDIR)$(PREFIX)/bin
 SHARE = $(DESTDIR)$(PREFIX)/share
 UNITS = $(DESTDIR)$(PREFIX)/lib/systemd/system
 USERS = $(DESTDIR)$(PREFIX)/lib/sysusers.d
+PAGES = asm list names diff where run sim serve ask fetch field format show
 
 install:
 	@$(PROVED)
-	mkdir -p $(BIN) $(SHARE)/man/man1 $(SHARE)/plc/examples/console $(SHARE)/plc/examples/field $(SHARE)/plc/examples/machines $(SHARE)/plc/examples/prometheus $(SHARE)/plc/docs/pictures $(SHARE)/plc/tools/importing $(UNITS) $(USERS)
-	install -m 755 build/plc $(BIN)/plc
-	tools/man-page build/plc > $(SHARE)/man/man1/plc.1
-	install -m 644 README.md SECURITY.md CHANGELOG.md CONTRIBUTING.md $(SHARE)/plc
+	@$(MAKE) --no-print-directory put
+
+# What is installed, of any program: install, deb and dist do it with the proved one.
+put: PLC ?= build/plc
+put:
+	mkdir -p $(BIN) $(SHARE)/man/man1 $(SHARE)/bash-completion/completions $(SHARE)/plc/examples/console $(SHARE)/plc/examples/field $(SHARE)/plc/examples/machines $(SHARE)/plc/examples/prometheus $(SHARE)/plc/docs/decisions $(SHARE)/plc/docs/pictures $(SHARE)/plc/tools/importing $(UNITS) $(USERS)
+	install -m 755 $(PLC) $(BIN)/plc
+	tools/man-page $(PLC) $(SHARE)/man/man1
+	tools/completion $(PLC) > $(SHARE)/bash-completion/completions/plc
+	install -m 644 README.md SECURITY.md CHANGELOG.md CONTRIBUTING.md crates.txt $(SHARE)/plc
 	install -m 644 docs/*.md $(SHARE)/plc/docs
+	install -m 644 docs/decisions/*.md $(SHARE)/plc/docs/decisions
 	install -m 644 docs/pictures/*.svg docs/pictures/*.png $(SHARE)/plc/docs/pictures
 	install -m 755 tools/number-lines tools/import $(SHARE)/plc/tools
 	install -m 644 tools/importing/*.py $(SHARE)/plc/tools/importing
@@ -137,14 +147,28 @@ install:
 	install -m 644 examples/plc.sysusers $(USERS)/plc.conf
 
 uninstall:
-	rm -f $(BIN)/plc $(SHARE)/man/man1/plc.1 $(UNITS)/plc.service $(UNITS)/plc@.service $(UNITS)/plc-field@.service $(USERS)/plc.conf
+	rm -f $(BIN)/plc $(SHARE)/man/man1/plc.1 $(PAGES:%=$(SHARE)/man/man1/plc-%.1) $(SHARE)/bash-completion/completions/plc $(UNITS)/plc.service $(UNITS)/plc@.service $(UNITS)/plc-field@.service $(USERS)/plc.conf
 	rm -rf $(SHARE)/plc
+
+deb:
+	@$(PROVED)
+	tools/make-deb build/plc
+
+dist:
+	@$(PROVED)
+	tools/make-deb --tar build/plc
 
 test:
 	tools/example-rows --check
 	tools/frame-rows --check
 	tools/crates-table
 	tools/audit-lines --check
+	tools/seen-by --check
+	tools/reference --check
+	tools/decisions --check
+	tools/links
+	-@tools/cells
+	tools/gate-times --reckon --check
 	tools/timeline --check
 	tools/sequence --check
 	-@tools/gate-times --difference

@@ -82,6 +82,13 @@ class Said:
                 self.came.append(got(stream, SIZE + 18))
         return sum(map(len, self.came))
 
+    def answer_to(self, key):
+        """What comes back to a right challenge as of another machine."""
+        with socket.create_connection(address(self.group, self.machine), 2) as stream:
+            stream.settimeout(2)
+            stream.sendall(key.challenge((self.machine + 1) % self.group.size, self.machine))
+            return got(stream, ANSWER)
+
     def send(self, stream, piece):
         self.sent.append(piece)
         try:

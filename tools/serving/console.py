@@ -17,6 +17,9 @@ SECOND = 'VAR_GLOBAL N : INT := 10; END_VAR\nLD N\nADD 1\nST %QW0\nRET\n' + 1500
 # An image with the variable N.
 IMAGE = '494C5043000100010000000000000003014E01FFFF0000000A010014000900400002001400'
 
+# What begins each answer about values while it's stopped.
+STOPPED = '{"scans":?,"moment":?,"phase":"stopped","position":1,"breaks":[],"forces":[{"place":"%IW0","value":32767}],'
+
 # Once a line is told, or at once behind the row before, this is asked, and answered so; `?` stands for any number. The
 # plant stops, and is reset; a scan is held, goes one instruction on, and then to its end. The program is changed, and
 # its names are looked up, also in the session of an operator who comes later.
@@ -30,6 +33,11 @@ STOPS = [
     ('"forces"', 'forces %IW0=32767')]
 RESETS = [
     ('"cr"', 'value INT#32767'),
+    ('"values"', STOPPED + '"variables":[],"instances":[]}'),
+    ('{"watch": ["%IW0", "%QW0"]}', STOPPED + '"values":['
+     '{"name":"%IW0","place":"%IW0","forced":true,"type":"INT","value":32767},'
+     '{"name":"%QW0","place":"%QW0","forced":false,"type":"INT","value":0}]}'),
+    ('{"watch": ["%IW0", "N"]}', 'plc: unknown name "N"'),
     ('{"unforce": "%IW0"}', 'done'),
     ('"forces"', 'forces'),
     ('{"break": 2}', 'done'),
@@ -41,6 +49,8 @@ HOLDS = [
     ('"cr"', 'value INT#0'),
     ('"step"', 'held 2'),
     ('"cr"', 'value INT#1'),
+    ('{"watch": ["%QW0"]}', '{"scans":?,"moment":?,"phase":"held","position":2,"breaks":[1,2],"forces":[],"values":['
+     '{"name":"%QW0","place":"%QW0","forced":false,"type":"INT","value":0}]}'),
     ('{"clear": 1}', 'done'),
     ('{"clear": 2}', 'done'),
     ('{"read": "N"}', 'refused 3'),
@@ -49,6 +59,8 @@ HOLDS = [
     ('"continue"', 'refused 1')]
 CHANGED = [
     ('{"read": "N"}', 'value INT#10'),
+    ('{"watch": ["n"]}', '{"scans":?,"moment":?,"phase":"idle","position":0,"breaks":[],"forces":[],"values":['
+     '{"name":"n","place":null,"forced":false,"type":"INT","value":10}]}'),
     ('"breaks"', 'breaks'),
     ('{"break": 3}', 'done')]
 LATER = [

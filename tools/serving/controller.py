@@ -113,8 +113,9 @@ class Served:
     def serves(self):
         return self.says(f'serving on 127.0.0.1:{self.port}')
 
-    def client(self):
-        stream = socket.create_connection(('127.0.0.1', self.port), PATIENCE)
+    def client(self, origin='127.0.0.1', port=None):
+        """One that comes from there, to the port for Modbus or to another one."""
+        stream = socket.create_connection(('127.0.0.1', port or self.port), PATIENCE, (origin, 0))
         stream.setsockopt(socket.IPPROTO_TCP, socket.TCP_NODELAY, 1)
         return stream
 

@@ -70,6 +70,20 @@ END_PROGRAM
 """
 
 
+# It has an instance, a double word at two words, and an output where no variable lies.
+VALUES = """VAR_GLOBAL START AT %IX0.0 : BOOL; RUN AT %QX0.0 : BOOL; SUM AT %QD2 : DINT; LEVEL : INT := 7; WARM : TON; END_VAR
+    CAL WARM(IN := START, PT := T#1s)
+    LD START
+    ST RUN
+    LD DINT#65536
+    ST SUM
+    LD LEVEL
+    ST %QW0
+"""
+# What an operator forces: an input; the lower word of SUM; an output where no variable lies.
+FORCES = '[{"force": ["%IX0.0", true]}, {"force": ["%QW3", -1]}, {"force": ["%QX1.0", true]}]'
+
+
 def asked(page, path, method='GET', **fields):
     """The status, the type and the text of what is answered; a host is named as `Host`, or none is."""
     link = http.client.HTTPConnection(*page, timeout=PATIENCE)
@@ -92,7 +106,7 @@ def state(page):
     return json.loads(text_at(page, '/state'))
 
 
-PATHS = {'metrics': '/metrics', 'state': '/state', 'page': '/'}
+PATHS = {'metrics': '/metrics', 'state': '/state', 'values': '/values', 'page': '/'}
 
 
 def pattern(text):
@@ -106,7 +120,7 @@ def differences(row, page):
         if title not in row.given:
             continue
         wanted = row.given[title].rstrip('\n') + '\n'
-        if title == 'state':
+        if title in ('state', 'values'):
             wanted = ''.join(wanted.split('\n')) + '\n'
         got = text_at(page, path)
         if not re.fullmatch(pattern(wanted), got):
@@ -214,6 +228,16 @@ def what_shows_of_instances(plc, work):
     page = '127.0.0.1', free_port()
     with Served(plc, work, '--period', 50, '--status', page[1], source=UNITS) as served:
         return served.serves() and is_shown(row_of('what instances hand over'), page)
+
+
+def what_shows_of_values(plc, work):
+    """A controller of which something is forced."""
+    page, console = ('127.0.0.1', free_port()), free_port()
+    with Served(plc, work, '--period', 50, '--status', page[1], '--console', console, source=VALUES) as served:
+        right = served.serves() and is_shown(row_of('a controller with an instance'), page)
+        right = right and ended(plc, 'ask', f'127.0.0.1:{console}', '-', input=FORCES)[:2] == (0, 'done\n' * 3)
+        right = right and is_shown(row_of('a controller of which three'), page)
+        return right and figures(page)['plc_forces'] == 3 and state(page)['forces'] == 3
 
 
 def what_shows_of_a_machine(plc, work):
@@ -338,5 +362,5 @@ def rounds_agree(page):
     return right
 
 
-GATE = [what_shows_of_a_controller, what_shows_of_one_that_stopped, what_shows_of_instances, what_shows_of_a_machine,
-        what_shows_of_a_field]
+GATE = [what_shows_of_a_controller, what_shows_of_one_that_stopped, what_shows_of_instances, what_shows_of_values,
+        what_shows_of_a_machine, what_shows_of_a_field]

@@ -103,6 +103,11 @@ class Session:
         self.stream.close()
         self.stream = self.served.client()
 
+    def is_begun(self):
+        """Whether its client is served and counted: from then on none is counted only once it's let go again."""
+        reply_to(self.stream, request(2, 0, 1))
+        return came_true(lambda: figure(self.page, 'plc_sessions') > 0)
+
     def send_taken(self, piece):
         """Sends bytes, and waits until the controller has read them."""
         self.stream.sendall(piece)
@@ -281,6 +286,8 @@ def is_lost_in_replies(session, row):
     """Whether of a client who sends all and is lost at once the inputs are those behind some of its requests."""
     may_be = [it[2] for it in states(row, Inputs(session.held or shown(session)))]
     session.again()
+    if not session.is_begun():
+        return False
     session.stream.sendall(whole(row)[0])
     right, session.held = session.is_let_go(), shown(session)
     return right and session.held in may_be
@@ -329,7 +336,8 @@ def old_outputs_are_withheld(plc, work):
     ever. Up to the limit, and without one, they are shown."""
     row = row_of('outputs that were released longer ago')
     with Session(plc, work, row, '--stale', OLD, period=HOUR) as session:
-        right = came_true(lambda: reply_to(session.stream, request(2, 0, 2))[7:] == b'\x82\4')
+        right = came_true(lambda: figure(session.page, 'plc_releases_total') == 1)
+        right = right and came_true(lambda: reply_to(session.stream, request(2, 0, 2))[7:] == b'\x82\4')
         right = are_replied(session, row) and is_cut_anywhere(session, row) and right
     row = row_of('outputs are shown up to')
     for limit in ((), ('--stale', HOUR)):

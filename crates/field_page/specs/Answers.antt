@@ -26,6 +26,7 @@ content_of site (verdicts.Shows shows.State) reading told =
     state_text site.version.items reading site.table.items told
 content_of site (verdicts.Shows shows.Metrics) reading told = metrics_text site.version.items reading
 content_of site (verdicts.Shows shows.Program) reading told = codes "There is nothing here.\n"
+content_of site (verdicts.Shows shows.Values) reading told = codes "There is nothing here.\n"
 content_of site verdicts.Malformed reading told = codes "The request has no Host.\n"
 content_of site verdicts.Misdirected reading told = codes "This is another host.\n"
 content_of site verdicts.Refused reading told = codes "This page is only read.\n"

@@ -38,7 +38,9 @@ fn put_content(
         Verdict::Malformed => put(out, b"The request has no Host.\n"),
         Verdict::Misdirected => put(out, b"This is another host.\n"),
         Verdict::Refused => put(out, b"This page is only read.\n"),
-        Verdict::Shows(Show::Program) | Verdict::Missing => put(out, b"There is nothing here.\n"),
+        Verdict::Shows(Show::Program | Show::Values) | Verdict::Missing => {
+            put(out, b"There is nothing here.\n")
+        }
     }
 }
 

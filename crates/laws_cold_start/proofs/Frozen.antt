@@ -13,7 +13,7 @@ use Rattle.vr_model.specs.World.{World, Event, Completion, Done, Lost, down, End
 use Rattle.vr_model.specs.Steps.{Input, Takes, TimesOut, Resends, by_rule}
 use Rattle.laws_cold_start.specs.ColdStarts.{HandsAnswer, AreFrozen, TakeNoPart}
 use Rattle.vr_model.specs.Views.{world}
-use Rattle.laws_cold_start.proofs.Statuses.{only_recovering, recovers_not_down, no_part, normal_is_part}
+use Rattle.laws_cold_start.proofs.Statuses.{only_recovering, recovers_not_down, normal_is_part}
 use Rattle.laws_cold_start.proofs.Tables.{put_same, put_cases, share}
 use Rattle.laws_cold_start.proofs.Cases.{IsRequest, AllRequests, Came, at_effect, case_by_case}
 use Rattle.laws_cold_start.proofs.Calm.{OfReplica, Quiet, Asked, Heard, said_by_rule, at_map}
@@ -157,7 +157,7 @@ both_ways false a b = absurd cc
 module _ {C A : Type 0} (f : ℕ) (answer : List C → A) (first : ℕ → ℕ → Bool) (who : ℕ → Bool) (nonces : ℕ → ℕ) where
   -- one that recovers takes an answer
   out_answered : (i : ℕ) (r : ReplicaState C) (s x : ℕ) (a : RecoveryResponse C) → IsQuorum f who → is_recovering r.status ≡ true → Out first who nonces i r
-      → (x ≡ nonces i → ⊥) → (first i x ≡ false → who s ≡ false) → Out first who nonces i (on_recovery_response {A = A} f i answer r s x a).replica
+      → (r.nonce ≡ x → x ≡ nonces i → ⊥) → (first i x ≡ false → who s ≡ false) → Out first who nonces i (on_recovery_response {A = A} f i answer r s x a).replica
   out_answered i r s x a big e out handed from = go (is_recovering r.status && (r.nonce == x)) refl
     where
       q : ReplicaState C
@@ -165,7 +165,7 @@ module _ {C A : Type 0} (f : ℕ) (answer : List C → A) (first : ℕ → ℕ �
 
       later : r.nonce ≡ x → Later first who i q
       later same = elim (out.under e) [
-        | inl own ↦ absurd (handed (sym same ∙ own))
+        | inl own ↦ absurd (handed same (sym same ∙ own))
         | inr l ↦ record {
           new = l.new;
           others = λ t. put_cases r.responses s (Some (kept_response (r.responses s) a)) t (λ b. is_some b ≡ true → who t ≡ false)
@@ -183,7 +183,7 @@ module _ {C A : Type 0} (f : ℕ) (answer : List C → A) (first : ℕ → ℕ �
 
   -- one that recovers takes something up; what answers its nonce isn't handed to it
   out_takes : (i : ℕ) (r : ReplicaState C) (m : Message C A) → IsQuorum f who → is_recovering r.status ≡ true → Out first who nonces i r
-      → ((x : ℕ) (a : RecoveryResponse C) → m.body ≡ RecoveryResponseMessage x a → x ≡ nonces i → ⊥)
+      → ((x : ℕ) (a : RecoveryResponse C) → m.body ≡ RecoveryResponseMessage x a → r.nonce ≡ x → x ≡ nonces i → ⊥)
       → ((x s : ℕ) (a : RecoveryResponse C) → m.body ≡ RecoveryResponseMessage x a → m.from ≡ Replica s → first i x ≡ false → who s ≡ false)
       → Out first who nonces i (receives f i answer r m.from m.body).replica
   out_takes i r m big e out handed from = go m.from m.body refl refl
@@ -267,13 +267,14 @@ module _ {C A : Type 0} (f : ℕ) (answer : List C → A) (first : ℕ → ℕ �
     out_steps i (Takes m) l is up came done =
         let old = h.out i l is in
         out_takes i (w.replicas i) m (big i is) (recovers_not_down _ old.part up) old
-        (λ x a body same. free i l is done (record {
+        (λ x a body under same. free i l is done (record {
           message = came.0;
           from = m.from;
           response = a;
           event_is = came.1;
           is = subst (λ (b : Body C A). slice_get w.sent came.0 ≡ Some (record { from = m.from; to = Replica i; body = b })) (body ∙ ap (λ y. RecoveryResponseMessage y a) same)
               (subst (λ t. slice_get w.sent came.0 ≡ Some (record { from = m.from; to = t; body = m.body })) came.3 came.2);
+          recovers = (recovers_not_down _ old.part up, under ∙ same);
         }))
         (λ x s a body p new.
         let says : Says w.used first who m.from m.to m.body = h.sent came.0 m came.2 in
@@ -416,7 +417,7 @@ frozen_hold {C} {A} f answer early late who nonces k moment =
       replicas = h.replicas;
       sent = λ j m e. from_now now.used who m.from m.to m.body (h.sent j m e);
       since = λ i x e. e;
-      out = λ i l is. let r = k.recover i l is in record { part = no_part _ r.0; under = λ e. inl r.1 };
+      out = λ i l is. let r = k.out i l is in record { part = r.0; under = λ e. inl r.1 };
     })
     (λ j event e i l is hands. k.unanswered i l is j event e
     (subst (λ (v : World C A). HandsAnswer v event i (nonces i)) (sym (run_append f answer early (take j late) start)) hands))

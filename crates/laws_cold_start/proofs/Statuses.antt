@@ -14,12 +14,6 @@ recovers_not_down ViewChange a b = absurd cc
 recovers_not_down Recovering a b = refl
 recovers_not_down Down a b = absurd cc
 
-pub no_part : (s : Status) → is_recovering s ≡ true → takes_part s ≡ false
-no_part Normal a = absurd cc
-no_part ViewChange a = absurd cc
-no_part Recovering a = refl
-no_part Down a = absurd cc
-
 pub not_down : (s : Status) → is_down s ≡ false → (takes_part s ≡ true) ⊎ (is_recovering s ≡ true)
 not_down Normal e = inl refl
 not_down ViewChange e = inl refl

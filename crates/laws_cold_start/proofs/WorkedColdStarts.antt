@@ -9,7 +9,7 @@ use Rattle.vr_model.specs.Replicas.{ReplicaState, put}
 use Rattle.vr_model.specs.Rules.{restarted}
 use Rattle.vr_model.specs.World.{World, Event, Deliver, Completion, Done, down, first_replica, happens, run, start}
 use Rattle.vr_model.specs.Views.{world}
-use Rattle.laws_cold_start.specs.ColdStarts.{RecoversUnder, HandsAnswer, IsInNoLog, IsHandedNoAnswer}
+use Rattle.laws_cold_start.specs.ColdStarts.{IsOutUnder, HandsAnswer, IsInNoLog, IsHandedNoAnswer}
 use Rattle.laws_cold_start.specs.WorkedColdStarts.{request, memory_lost, goes_on, one_lost, others_commit, WorkedColdStarts}
 use Rattle.laws_cold_start.proofs.Tables.{put_cases}
 use Rattle.laws_cold_start.proofs.Frozen.{run_append}
@@ -79,7 +79,7 @@ worked_cold_starts {C} {A} answer a b = record {
   steps = refl;
   frozen = record {
     many = omega arith;
-    recover = λ i l is. third answer i l (λ j. (not (j == 0)) ≡ true → RecoversUnder ((world 1 answer (memory_lost a)).replicas j) (put (λ k. 7) 2 9 j)) (λ e. absurd cc) (λ e. (refl, refl)) (λ e. (refl, refl)) is;
+    out = λ i l is. third answer i l (λ j. (not (j == 0)) ≡ true → IsOutUnder ((world 1 answer (memory_lost a)).replicas j) (put (λ k. 7) 2 9 j)) (λ e. absurd cc) (λ e. (refl, refl)) (λ e. (refl, refl)) is;
     unanswered = λ i l is. third answer i l (λ j. (not (j == 0)) ≡ true → IsHandedNoAnswer 1 answer (memory_lost a) (goes_on b) j (put (λ k. 7) 2 9 j)) (λ e. absurd cc)
         (λ e. free answer (memory_lost a) (goes_on b) 1 7 refl) (λ e. free answer (memory_lost a) (goes_on b) 2 9 refl) is;
   };
@@ -89,12 +89,12 @@ worked_cold_starts {C} {A} answer a b = record {
   still_out = (refl, refl);
   too_few = record {
     many = omega arith;
-    recover = λ i l is. third answer i l (λ j. (j == 1) ≡ true → RecoversUnder ((world {A = A} 1 answer one_lost).replicas j) 7) (λ e. absurd cc) (λ e. (refl, refl)) (λ e. absurd cc) is;
+    out = λ i l is. third answer i l (λ j. (j == 1) ≡ true → IsOutUnder ((world {A = A} 1 answer one_lost).replicas j) 7) (λ e. absurd cc) (λ e. (refl, refl)) (λ e. absurd cc) is;
     unanswered = λ i l is. third answer i l (λ j. (j == 1) ≡ true → IsHandedNoAnswer 1 answer one_lost (others_commit a) j 7) (λ e. absurd cc) (λ e. free answer one_lost (others_commit a) 1 7 refl) (λ e. absurd cc) is;
   };
   in_no_log = in_no_log answer a;
   too_few_shows = λ k. k.order 4 (record { place = 0; is = refl });
   recover = ((refl, refl), (refl, refl));
-  handed = record { message = 2; from = _; response = _; event_is = refl; is = refl };
+  handed = record { message = 2; from = _; response = _; event_is = refl; is = refl; recovers = (refl, refl) };
   handed_shows = refl;
 }

@@ -1,5 +1,5 @@
 -- When the old history can't go on: f+1 replicas have lost their memory, and none of them is handed an answer to what
--- it asked for then.
+-- it asks for then.
 use Rattle.std.specs.Prelude.{◌≡◌, ℕ, ◌+◌, ◌<◌, ◌≤◌, Bool, true, false, List, ◌++◌, take, Some, slice_get}
 use Rattle.vr_model.specs.Logs.{Request, IsAmong}
 use Rattle.vr_model.specs.Groups.{group_size, how_many}
@@ -13,7 +13,11 @@ use Rattle.vr_model.specs.Views.{world}
 abbrev pub RecoversUnder : {C : Type 0} → ReplicaState C → ℕ → Type 0
 RecoversUnder r nonce = (is_recovering r.status ≡ true) × (r.nonce ≡ nonce)
 
--- the event hands this replica a RECOVERYRESPONSE to this nonce
+-- it recovers or is down, and this is the nonce of its last restart
+abbrev pub IsOutUnder : {C : Type 0} → ReplicaState C → ℕ → Type 0
+IsOutUnder r nonce = (takes_part r.status ≡ false) × (r.nonce ≡ nonce)
+
+-- the event hands this replica, while it recovers under this nonce, a RECOVERYRESPONSE to it
 pub record HandsAnswer {C A : Type 0} (w : World C A) (event : Event C) (replica nonce : ℕ) : Type 0 where
   pub message : ℕ
   pub from : Party
@@ -21,6 +25,7 @@ pub record HandsAnswer {C A : Type 0} (w : World C A) (event : Event C) (replica
   pub event_is : event ≡ Deliver message
   pub is : slice_get w.sent message ≡ Some
       (record { from = from; to = Replica replica; body = RecoveryResponseMessage nonce response })
+  pub recovers : RecoversUnder (w.replicas replica) nonce
 
 module _ {C A : Type 0} (f : ℕ) (answer : List C → A) (early : List (Event C × Completion)) where
   -- the request stood in no replica's log at any moment of the early events
@@ -37,17 +42,18 @@ module _ {C A : Type 0} (f : ℕ) (answer : List C → A) (early : List (Event C
     IsHandedNoAnswer replica nonce = (moment : ℕ) (event : Event C) → slice_get late moment ≡ Some (event, Done)
         → HandsAnswer (behind moment) event replica nonce → ⊥
 
-    -- Behind the early events at least so many replicas recover, each under a nonce of its own, and none of them is
-    -- handed an answer to that nonce. Whatever else the late events may be: crashes, restarts, timeouts, deliveries.
-    pub record RecoverUnanswered (least : ℕ) (who : ℕ → Bool) (nonces : ℕ → ℕ) : Type 0 where
+    -- Behind the early events at least so many replicas recover or are down, and none of those that recover is handed an
+    -- answer to the nonce under which it does. Whatever else the late events may be: crashes, restarts, timeouts,
+    -- deliveries.
+    pub record AreOutUnanswered (least : ℕ) (who : ℕ → Bool) (nonces : ℕ → ℕ) : Type 0 where
       pub many : least ≤ how_many who (group_size f)
-      pub recover : (i : ℕ) → i < group_size f → who i ≡ true
-          → RecoversUnder ((world f answer early).replicas i) (nonces i)
+      pub out : (i : ℕ) → i < group_size f → who i ≡ true
+          → IsOutUnder ((world f answer early).replicas i) (nonces i)
       pub unanswered : (i : ℕ) → i < group_size f → who i ≡ true → IsHandedNoAnswer i (nonces i)
 
     -- f+1 replicas
     abbrev pub AreFrozen : (ℕ → Bool) → (ℕ → ℕ) → Type 0
-    AreFrozen who nonces = RecoverUnanswered (f + 1) who nonces
+    AreFrozen who nonces = AreOutUnanswered (f + 1) who nonces
 
     -- from then on none of them is normal or in a view change: each is recovering or down
     abbrev pub TakeNoPart : (ℕ → Bool) → Type 0

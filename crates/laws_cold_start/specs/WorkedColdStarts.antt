@@ -6,7 +6,7 @@ use Rattle.vr_model.specs.Replicas.{is_normal, is_recovering, put}
 use Rattle.vr_model.specs.World.{Event, Submit, Deliver, Crash, Restart, Completion, start}
 use Rattle.vr_model.specs.Report.{all_done, first_refusal}
 use Rattle.vr_model.specs.Views.{world}
-use Rattle.laws_cold_start.specs.ColdStarts.{RecoversUnder, HandsAnswer, IsInNoLog, behind, RecoverUnanswered}
+use Rattle.laws_cold_start.specs.ColdStarts.{RecoversUnder, HandsAnswer, IsInNoLog, behind, AreOutUnanswered}
 use Rattle.laws_cold_start.specs.ColdStarts.{AreFrozen, IsNeverCommitted}
 
 -- the first request of a client
@@ -49,7 +49,7 @@ pub record WorkedColdStarts {C A : Type 0} (answer : List C → A) (a b : C) : T
   pub still_out : (is_recovering ((behind 1 answer (memory_lost a) (goes_on b) 8).replicas 1).status ≡ true)
       × (is_recovering ((behind 1 answer (memory_lost a) (goes_on b) 8).replicas 2).status ≡ true)
   -- f in place of f+1: a request that was in no log is committed behind it
-  pub too_few : RecoverUnanswered 1 answer one_lost (others_commit a) 1 (λ i. i == 1) (λ i. 7)
+  pub too_few : AreOutUnanswered 1 answer one_lost (others_commit a) 1 (λ i. i == 1) (λ i. 7)
   pub in_no_log : IsInNoLog 1 answer one_lost (request 0 a)
   pub too_few_shows : IsNeverCommitted 1 answer one_lost (others_commit a) (request 0 a) → ⊥
   -- an answer that was under way is handed over: of f+1 that recover one is normal behind it

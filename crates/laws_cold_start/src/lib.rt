@@ -9,14 +9,15 @@
 //! laws_cold_start::nothing_new_is_committed::<Command, Answer>();
 //! ```
 //!
-//! Say that f+1 replicas recover at one moment, and that from then on none of them is handed a RECOVERYRESPONSE to the
-//! nonce that it has at that moment (`specs/ColdStarts`). They may crash, restart under other nonces and be answered
-//! those; all else may happen, too. Proved: none of them takes part again (`frozen_replicas_take_no_part`), and a
-//! request that was in no log up to that moment is never committed (`nothing_new_is_committed`). Worked schedules show
-//! that f are too few, and that an answer which was under way may not be handed over (`worked_cold_starts`).
+//! Say that f+1 replicas recover or are down at one moment, and that from then on none of them that recovers under the
+//! nonce of that moment is handed a RECOVERYRESPONSE to it (`specs/ColdStarts`). They may crash, restart under other
+//! nonces and be answered those; all else may happen, too. Proved: none of them takes part again
+//! (`frozen_replicas_take_no_part`), and a request that was in no log up to that moment is never committed
+//! (`nothing_new_is_committed`). Worked schedules show that f are too few, and that an answer which was under way may
+//! not be handed over (`worked_cold_starts`).
 //!
 //! No test is needed here. Of machines, epochs and times the laws say nothing: that the steps of `plc_epochs` come to
-//! such a moment is no theorem.
+//! such a moment is a theorem of `laws_epoch_ends`.
 #![tactic(auto)]
 
 ghost use Rattle.std.specs.Prelude.{ℕ, List, Bool};
@@ -25,8 +26,8 @@ ghost use Rattle.vr_model.specs.World.{Event, Completion};
 ghost use Rattle.laws_cold_start.specs.ColdStarts.{AreFrozen, TakeNoPart, IsInNoLog, IsNeverCommitted};
 ghost use Rattle.laws_cold_start.specs.WorkedColdStarts.{WorkedColdStarts};
 
-/// None of f+1 replicas that recover at one moment, and are handed no answer to the nonce of that moment, takes part
-/// behind it: each is recovering or down. It may crash, restart under other nonces and be answered those.
+/// None of f+1 replicas that recover or are down at one moment, and are handed no answer to the nonce of that moment,
+/// takes part behind it: each is recovering or down. It may crash, restart under other nonces and be answered those.
 pub fn frozen_replicas_take_no_part<C, A>()
     ensures { (f : ℕ) (answer : List C → A) (early late : List (Event C × Completion)) (who : ℕ → Bool)
         (nonces : ℕ → ℕ) → AreFrozen f answer early late who nonces → TakeNoPart f answer early late who }

@@ -22,7 +22,7 @@ use Rattle.plc_epochs.specs.declared.cold_start.Place.{Place}
 use Rattle.plc_epochs.specs.declared.cold_start.Step.{Step}
 use Rattle.plc_epochs.proofs.GoingOn.{either}
 use Rattle.laws_epochs.specs.Machines.{Telling, TimeHasPassed, StoreHas, HelloCame, SignCame, RecoveryCame, WordCame, ReplicaRecovered, ImageIs, Follows}
-use Rattle.laws_epochs.specs.Beginnings.{HasCome, IsUnfrozen}
+use Rattle.laws_epochs.specs.Beginnings.{HasCome, IsBeginning, IsUnfrozen}
 use Rattle.laws_epochs.proofs.Later.{same_epoch}
 
 -- ---- hellos
@@ -78,10 +78,6 @@ IsToldBy telling own e j = ⊥
 abbrev pub IsEntered : Epoch → Phase → Type 0
 IsEntered e (Entered own heard) = own ≡ e
 IsEntered e phase = ⊥
-
-abbrev pub IsBeginning : Epoch → Phase → Type 0
-IsBeginning e (Beginning own) = own ≡ e
-IsBeginning e phase = ⊥
 
 pub record Changes (telling : Telling) (store : Kept) (own : Place) (p q : Phase) : Type 0 where
   pub greets : (e : Epoch) → greeting_in q ≡ Hello e → (greeting_in p ≡ Hello e) ⊎ HasCome e store

@@ -12,7 +12,7 @@ use Rattle.plc_epochs.specs.declared.kept.Kept.TheVariants as keeps
 use Rattle.plc_epochs.specs.Epochs.{by_hand, entered_by_hand, is_later, is_later_by, is_same, next_epoch}
 use Rattle.plc_epochs.specs.GoingOn.{GoesOn}
 use Rattle.plc_epochs.proofs.GoingOn.{behind_is_later}
-use Rattle.laws_epochs.specs.Beginnings.{HasCome, IsNoEarlier}
+use Rattle.laws_epochs.specs.Beginnings.{HasBegun, HasCome, IsBeyond, IsNoEarlier}
 
 abbrev key : Epoch → List ℕ
 key e = e.number ∷ e.image
@@ -67,13 +67,6 @@ later_than_itself e h =
     let up : compared e e ≡ Greater = greater (compared e e) (sym (by_key (nat_cmp e.number e.number) e.image e.image) ∙ h) in
     false≢true (ap is_gt (sym (below e e h) ∙ up))
 
--- a store has begun this epoch, or left it
-abbrev pub HasBegun : Epoch → Kept → Type 0
-HasBegun epoch keeps.Nothing = ⊥
-HasBegun epoch (keeps.Above above) = ⊥
-HasBegun epoch (keeps.Entered own) = is_later own epoch ≡ true
-HasBegun epoch (keeps.Begun own) = IsNoEarlier own epoch
-
 later_yet : (a b c : Epoch) → is_later a b ≡ true → IsNoEarlier b c → is_later a c ≡ true
 later_yet a b c l (inl e) = subst (λ x. is_later a x ≡ true) e l
 later_yet a b c l (inr m) = later_chain a b c l m
@@ -95,7 +88,37 @@ begun_on (keeps.Begun own) (keeps.Begun other) epoch g h = no_earlier_chain othe
 pub entered_only : (own epoch : Epoch) → own ≡ epoch → HasBegun epoch (keeps.Entered own) → ⊥
 entered_only own epoch is h = later_than_itself epoch (subst (λ x. is_later x epoch ≡ true) is h)
 
+-- ---- an epoch above which it waits
+
+pub beyond_on : (k l : Kept) (epoch : Epoch) → GoesOn k l → IsBeyond epoch k → IsBeyond epoch l
+beyond_on keeps.Nothing l epoch g h = absurd h
+beyond_on (keeps.Above above) keeps.Nothing epoch g h = absurd g
+beyond_on (keeps.Above above) (keeps.Above other) epoch g h = subst (λ x. IsNoEarlier x epoch) (sym g) h
+beyond_on (keeps.Above above) (keeps.Entered other) epoch g h = later_yet other above epoch g h
+beyond_on (keeps.Above above) (keeps.Begun other) epoch g h = absurd g
+beyond_on (keeps.Entered own) keeps.Nothing epoch g h = absurd g
+beyond_on (keeps.Entered own) (keeps.Above above) epoch g h = absurd g
+beyond_on (keeps.Entered own) (keeps.Entered other) epoch (inl e) h = subst (λ x. is_later x epoch ≡ true) (sym e) h
+beyond_on (keeps.Entered own) (keeps.Entered other) epoch (inr l) h = later_chain other own epoch l h
+beyond_on (keeps.Entered own) (keeps.Begun other) epoch g h = subst (λ x. is_later x epoch ≡ true) (sym g) h
+beyond_on (keeps.Begun own) keeps.Nothing epoch g h = absurd g
+beyond_on (keeps.Begun own) (keeps.Above above) epoch g h = absurd g
+beyond_on (keeps.Begun own) (keeps.Entered other) epoch g h = later_chain other own epoch g h
+beyond_on (keeps.Begun own) (keeps.Begun other) epoch g h = subst (λ x. is_later x epoch ≡ true) (sym g) h
+
 -- ---- by hand
+
+entered_beyond : (own epoch : Epoch) (image : List ℕ) (o : Option Epoch) (has : Kept) → next_epoch own image ≡ o → entered_by_hand o ≡ Ok has → is_later own epoch ≡ true → IsBeyond epoch has
+entered_beyond own epoch image None has is h k = absurd cc
+entered_beyond own epoch image (Some next) has is h k =
+    let e : keeps.Entered next ≡ has = cc in
+    subst (λ x. IsBeyond epoch x) e (later_chain next own epoch (behind_is_later own next image true is) k)
+
+pub hand_beyond : (k has : Kept) (epoch : Epoch) (image : List ℕ) → by_hand k image ≡ Ok has → IsBeyond epoch k → IsBeyond epoch has
+hand_beyond keeps.Nothing has epoch image h k = absurd k
+hand_beyond (keeps.Above above) has epoch image h k = absurd cc
+hand_beyond (keeps.Entered own) has epoch image h k = entered_beyond own epoch image (next_epoch own image) has refl h k
+hand_beyond (keeps.Begun own) has epoch image h k = entered_beyond own epoch image (next_epoch own image) has refl h k
 
 entered_begun : (own epoch : Epoch) (image : List ℕ) (o : Option Epoch) (has : Kept) → next_epoch own image ≡ o → entered_by_hand o ≡ Ok has → IsNoEarlier own epoch → HasBegun epoch has
 entered_begun own epoch image None has is h k = absurd cc

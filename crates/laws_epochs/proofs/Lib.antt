@@ -3,3 +3,4 @@ pub mod Changes
 pub mod Standing
 pub mod Beginning
 pub mod Once
+pub mod Waiting

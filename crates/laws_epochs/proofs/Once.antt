@@ -18,8 +18,9 @@ use Rattle.plc_epochs.specs.declared.cold_start.Step.{Step}
 use Rattle.plc_epochs.specs.declared.cold_start.Step.TheVariants as steps
 use Rattle.plc_epochs.proofs.GoingOn.{either}
 use Rattle.laws_epochs.specs.Machines.{Telling, StoreHas, Move, Starts, Takes, Greets, Writes, Stops, GoesByHand, Machine, Machines, to_write, May, after_move, AreMoves, after_moves, at_rest}
-use Rattle.laws_epochs.proofs.Later.{HasBegun, begun_on, entered_only, hand_begun, same_epoch}
-use Rattle.laws_epochs.proofs.Changes.{IsEntered, IsBeginning, Done, done}
+use Rattle.laws_epochs.specs.Beginnings.{BeganBefore, HasBegun, IsBeginning}
+use Rattle.laws_epochs.proofs.Later.{begun_on, entered_only, hand_begun, same_epoch}
+use Rattle.laws_epochs.proofs.Changes.{IsEntered, Done, done}
 use Rattle.laws_epochs.proofs.Standing.{GoingOn, split}
 
 -- ---- the step by which it begins one
@@ -148,6 +149,21 @@ module _ (f : ℕ) (e : Epoch) where
       put_cases w.at i (record { store = (w.at i).store; runs = Some b }) i (λ (x : Machine). HasDone e x)
       (λ is. running (w.at i).store b now.has (subst (λ p. IsDone e p) (sym now.is) part)) (λ other. absurd (other refl))
 
+  -- who has begun it isn't beginning it
+  not_again : (w : Machines) (i : ℕ) (late : List Move) (b : ColdStart) → GoingOn → AreMoves f w (late ++ Takes i StoreHas (steps.Starts e) b ∷ []) → HasDone e (w.at i) → ⊥
+  not_again w i late b goes right h =
+      let rest = split f late (Takes i StoreHas (steps.Starts e) b ∷ []) w right in
+      let done = over late w i goes rest.0 h in
+      let may = rest.1.0 in
+      let now = starts_now e ((after_moves f w late).at i).store may.0 b may.3 in
+      (done.1 may.0 may.1).1 now.was
+
+  pub never_again : (i : ℕ) (stores : ℕ → Kept) (early late : List Move) (b : ColdStart) → GoingOn
+      → AreMoves f (at_rest stores) (early ++ (late ++ Takes i StoreHas (steps.Starts e) b ∷ [])) → BeganBefore e ((after_moves f (at_rest stores) early).at i) → ⊥
+  never_again i stores early late b goes right h =
+      let parts = split f early (late ++ Takes i StoreHas (steps.Starts e) b ∷ []) (at_rest stores) right in
+      not_again (after_moves f (at_rest stores) early) i late b goes parts.1 (h.store, h.process)
+
   pub once : (i : ℕ) (stores : ℕ → Kept) (early late : List Move) (a b : ColdStart) → GoingOn
       → AreMoves f (at_rest stores) (early ++ (Takes i StoreHas (steps.Starts e) a ∷ (late ++ Takes i StoreHas (steps.Starts e) b ∷ []))) → ⊥
   once i stores early late a b goes right =
@@ -155,9 +171,4 @@ module _ (f : ℕ) (e : Epoch) where
       let second = Takes i StoreHas (steps.Starts e) b in
       let parts = split f early (first ∷ (late ++ second ∷ [])) (at_rest stores) right in
       let w : Machines = after_moves f (at_rest stores) early in
-      let v : Machines = after_move f w first in
-      let rest = split f late (second ∷ []) v parts.1.1 in
-      let done = over late v i goes rest.0 (begins_it w i a parts.1.0) in
-      let may = rest.1.0 in
-      let now = starts_now e ((after_moves f v late).at i).store may.0 b may.3 in
-      (done.1 may.0 may.1).1 now.was
+      not_again (after_move f w first) i late b goes parts.1.1 (begins_it w i a parts.1.0)

@@ -13,16 +13,20 @@
 //!   (`epochs_begin_behind_a_majority`, `specs/Beginnings`).
 //! - No machine goes back: once its store has an epoch, or it has said hello in it, its store never has an earlier one
 //!   again, and it takes part in none (`machines_never_go_back`).
-//! - A machine begins an epoch once, over all its processes (`machines_begin_an_epoch_once`).
+//! - A machine begins an epoch once, over all its processes (`machines_begin_an_epoch_once`); and whoever has begun it, or
+//!   is past it, never begins it again (`no_machine_begins_an_epoch_again`).
+//! - A machine whose disk was lost, and which waits above an epoch, takes part in none up to that one, whatever comes
+//!   (`who_waits_above_an_epoch_passes_it_by`).
 //! - Machines that begin one epoch have one image (`beginners_have_one_image`).
 //! - A machine that is marked neither freezes nor asks, whatever it's told (`marked_machines_never_freeze`).
+//! - Whoever is up is one of the group, and knows its number (`machines_know_their_places`).
 //!
 //! Premises: a store is found as it was left, and belongs to one machine alone; no disk is lost; each hello that a
 //! machine accepts was said before, by the machine that it names, in the epoch that it names. Of all other words nothing
-//! is presupposed: they may be forged. No time is, and no replica.
+//! is presupposed: they may be forged. No time is, and no replica: with both, `laws_epoch_ends` has that f+1 machines are
+//! frozen at one moment where one of them gives an epoch up by itself.
 //!
-//! Only tested, or argued: that f+1 machines are frozen at one moment where one of them gives an epoch up by itself, and
-//! that a machine whose disk was lost waits above each epoch in which it took part.
+//! Only tested, or argued: that a machine whose disk was lost waits above each epoch in which it took part.
 #![tactic(auto)]
 
 ghost use Rattle.std.specs.Prelude.{◌≡◌, ℕ, true, Some, List, [], ◌∷◌, ◌++◌, slice_get};
@@ -32,7 +36,8 @@ ghost use Rattle.plc_epochs.specs.declared.cold_start.ColdStart.{ColdStart};
 ghost use Rattle.plc_epochs.specs.declared.cold_start.Step.TheVariants.{Begins, Starts};
 ghost use Rattle.plc_epochs.specs.Table as table;
 ghost use Rattle.laws_epochs.specs.Machines.{Move, Takes, StoreHas, TimeHasPassed, AreMoves, after_moves, at_rest};
-ghost use Rattle.laws_epochs.specs.Beginnings.{HasCome, IsPast, MajorityIsPast, IsUnfrozen};
+ghost use Rattle.laws_epochs.specs.Beginnings.{BeganBefore, HasCome, IsPast, MajorityIsPast, IsUnfrozen, IsPlaced};
+ghost use Rattle.laws_epochs.specs.Beginnings.{TakesPartBeyond, WaitsAbove};
 
 /// A machine begins an epoch only once f+1 machines have come to that epoch, and have left all before it for good. So an
 /// epoch before has no majority any more, however it was given up, by evidence or by hand, and none comes back to it.
@@ -69,6 +74,27 @@ pub fn machines_begin_an_epoch_once()
     plc_epochs::no_store_goes_back();
 }
 
+/// A machine that has begun an epoch, or is past it, whether it was up when these moves came or not, never begins it
+/// again. So whatever its replica did in that epoch comes behind its beginning.
+pub fn no_machine_begins_an_epoch_again()
+    ensures { (f i : ℕ) (stores : ℕ → Kept) (early late : List Move) (epoch : Epoch) (becomes : ColdStart)
+        → AreMoves f (at_rest stores) (early ++ (late ++ Takes i StoreHas (Starts epoch) becomes ∷ []))
+        → BeganBefore epoch ((after_moves f (at_rest stores) early).at i) → ⊥ }
+{
+    plc_epochs::no_store_goes_back();
+}
+
+/// A machine that waits above an epoch, as one whose disk was lost does, takes part in none up to that one, whatever
+/// comes: it restarts, hears epochs, and begins later ones alone.
+pub fn who_waits_above_an_epoch_passes_it_by()
+    ensures { (f i : ℕ) (stores : ℕ → Kept) (early late : List Move) (epoch : Epoch)
+        → AreMoves f (at_rest stores) (early ++ late)
+        → WaitsAbove epoch ((after_moves f (at_rest stores) early).at i)
+        → TakesPartBeyond epoch ((after_moves f (at_rest stores) (early ++ late)).at i) }
+{
+    plc_epochs::no_store_goes_back();
+}
+
 /// Machines that begin one epoch have one image in force, up to its sum.
 pub fn beginners_have_one_image()
     ensures { (now later : ℕ) (epoch : Epoch) (a b c d : ColdStart) → table.Looks now a (Begins epoch) b
@@ -81,6 +107,14 @@ pub fn marked_machines_never_freeze()
     ensures { (f i : ℕ) (stores : ℕ → Kept) (moves : List Move) (a : ColdStart) → AreMoves f (at_rest stores) moves
         → ((after_moves f (at_rest stores) moves).at i).runs ≡ Some a → a.place.is_marked ≡ true
         → IsUnfrozen a.phase }
+{
+    plc_epochs::no_store_goes_back();
+}
+
+/// Whoever is up is one of the group's machines, and knows its number and its group.
+pub fn machines_know_their_places()
+    ensures { (f i : ℕ) (stores : ℕ → Kept) (moves : List Move) (a : ColdStart) → AreMoves f (at_rest stores) moves
+        → ((after_moves f (at_rest stores) moves).at i).runs ≡ Some a → IsPlaced f i a }
 {
     plc_epochs::no_store_goes_back();
 }

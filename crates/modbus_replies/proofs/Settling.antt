@@ -30,7 +30,7 @@ pub withheld : (told : Option Book) (stale : Bool) (pdu : List ℕ) (released : 
 withheld told stale pdu released answer is shows e = rw (is, shows, e) (untouched told (exception_of pdu ServerDeviceFailure))
 
 -- its cells were read
-looked : (before after : Option Book) (f : Cells → List ℕ) (answer : List ℕ) (cells : Cells) → Changed before after (λ b c. Does b (read_gave cells) c) → answer ≡ f cells
+pub looked : (before after : Option Book) (f : Cells → List ℕ) (answer : List ℕ) (cells : Cells) → Changed before after (λ b c. Does b (read_gave cells) c) → answer ≡ f cells
     → Replies before after (λ staged refused. read_outcome (f staged)) answer
 looked None after f answer cells h e = (h, cells, false, e)
 looked (Some b) None f answer cells h e = absurd h

@@ -1,5 +1,6 @@
 -- The reply to a request, and the write that it makes.
-use Rattle.std.specs.Prelude.{◌≡◌, ℕ, ◌+◌, ◌==◌, ◌&&◌, Bool, true, false, if◌then◌else◌, List, [], ◌∷◌, take, drop, slice_range}
+use Rattle.std.specs.Prelude.{◌≡◌, ℕ, ◌+◌, ◌==◌, ◌&&◌, Bool, true, false, if◌then◌else◌, List, [], ◌∷◌, take, drop}
+use Rattle.std.specs.Prelude.{slice_index, slice_range}
 use Rattle.std.specs.Prelude.{Option, Some, None, Result, Ok, Err}
 use Rattle.std.specs.Int.{w16, cast_signed}
 use Rattle.il_model.specs.declared.cells.Cells.{Cells}
@@ -12,10 +13,13 @@ use Rattle.modbus_wire.specs.declared.function.Function.{Function}
 use Rattle.modbus_wire.specs.declared.function.Function.TheVariants.{ReadBits, ReadWords, WriteBit, WriteWord}
 use Rattle.modbus_wire.specs.declared.function.Function.TheVariants.{WriteBits, WriteWords, MaskWord, WriteReadWords}
 use Rattle.modbus_wire.specs.declared.exception.Exception.{Exception}
-use Rattle.modbus_wire.specs.declared.exception.Exception.TheVariants.{ServerDeviceFailure}
+use Rattle.modbus_wire.specs.declared.exception.Exception.TheVariants.{IllegalFunction, ServerDeviceFailure}
 use Rattle.modbus_wire.specs.Frames.{number_at}
 use Rattle.modbus_wire.specs.Packing.{bytes_of_bits, bits_of_bytes, bytes_of_words, words_of_bytes}
 use Rattle.modbus_wire.specs.Replies.{exception_of, data_reply}
+use Rattle.modbus_wire.specs.Functions.{function_of}
+use Rattle.modbus_replies.specs.declared.permitted.Access.{Access}
+use Rattle.modbus_replies.specs.declared.permitted.Access.TheVariants.{ReadsAndWrites, ReadsAlone}
 use Rattle.modbus_replies.specs.declared.request.Asked.{Asked}
 use Rattle.modbus_replies.specs.Requests.{request_of}
 
@@ -97,6 +101,31 @@ abbrev pub timely_reply : Bool → List ℕ → Cells → Cells → Bool → Out
 timely_reply stale pdu staged released refused =
     if stale && shows_outputs (request_of pdu) then read_outcome (exception_of pdu ServerDeviceFailure)
     else modbus_reply pdu staged released refused
+
+-- it writes
+abbrev pub writes : Function → Bool
+writes (ReadBits table) = false
+writes (ReadWords table) = false
+writes _ = true
+
+-- the function that a request has, if there is one of its code
+abbrev pub function_at : List ℕ → Option Function
+function_at pdu = function_of (slice_index pdu 0)
+
+abbrev pub is_write : Option Function → Bool
+is_write None = false
+is_write (Some function) = writes function
+
+-- the reply to who may only read: to each function that writes, whatever else stands in the request, exception 1, and to
+-- the others what everybody gets
+abbrev pub read_reply : Bool → List ℕ → Cells → Cells → List ℕ
+read_reply stale pdu staged released = if is_write (function_at pdu)
+    then exception_of pdu IllegalFunction else (timely_reply stale pdu staged released true).reply
+
+-- by what a client may do; of who may only read nothing is ever staged
+abbrev pub permitted_reply : Access → Bool → List ℕ → Cells → Cells → Bool → Outcome
+permitted_reply ReadsAndWrites stale pdu staged released refused = timely_reply stale pdu staged released refused
+permitted_reply ReadsAlone stale pdu staged released refused = read_outcome (read_reply stale pdu staged released)
 
 abbrev pub book_after : Book → Option Change → Book
 book_after b None = b

@@ -16,14 +16,14 @@ use modbus_wire::{
     words_of, words_reply,
 };
 
-fn shown_bits(pdu: &[u8], bits: &[bool], at: usize, count: usize) -> Pdu
+pub(crate) fn shown_bits(pdu: &[u8], bits: &[bool], at: usize, count: usize) -> Pdu
     requires { (0 < length pdu.now) × (at + count ≤ length bits.now) × (length bits.now ≡ BITS) }
     ensures { result.items ≡ data_reply pdu.now (bytes_of_bits (slice_range bits.now at (at + count))) }
 {
     bits_reply(pdu, &bits[at..at + count])
 }
 
-fn shown_words(pdu: &[u8], words: &[i16], at: usize, count: usize) -> Pdu
+pub(crate) fn shown_words(pdu: &[u8], words: &[i16], at: usize, count: usize) -> Pdu
     requires { (0 < length pdu.now) × (at + count ≤ length words.now) × (length words.now ≡ WORDS) }
     ensures { result.items ≡ data_reply pdu.now (bytes_of_words (slice_range words.now at (at + count))) }
 {
@@ -123,7 +123,7 @@ pub fn reply<S: Staging>(pdu: &[u8], staging: &mut S, released: &View) -> Pdu
 }
 
 /// Whether a request passes each check, and reads outputs.
-fn shows_outputs(pdu: &[u8]) -> bool
+pub(crate) fn shows_outputs(pdu: &[u8]) -> bool
     requires { 0 < length pdu.now }
     ensures { result ≡ shows_outputs (judged pdu.now) }
 {

@@ -1,3 +1,4 @@
 pub mod Sessions
+pub mod Access
 pub mod Values
 pub mod Doubles

@@ -14,7 +14,8 @@ use Rattle.modbus_wire.specs.declared.header.HeaderFault.{HeaderFault}
 use Rattle.modbus_wire.specs.Frames.{Adu, frame_of, adus}
 use Rattle.modbus_server.specs.declared.serve.SessionEnd.{SessionEnd}
 use Rattle.modbus_server.specs.declared.serve.SessionEnd.TheVariants as ends
-use Rattle.modbus_replies.specs.Replies.{Replies, timely_reply}
+use Rattle.modbus_replies.specs.declared.permitted.Access.{Access}
+use Rattle.modbus_replies.specs.Replies.{Replies, permitted_reply}
 
 -- ---- requests that are answered, as they are counted
 
@@ -35,15 +36,16 @@ with_replies counts (request ∷ requests) (reply ∷ replies) =
 
 -- ---- sessions
 
--- what a session works with: the book that its staging tells, if it does, the releases that its reader saw, and for how
--- many milliseconds outputs are shown without a release, if there is a limit
+-- what a session works with: the book that its staging tells, if it does, the releases that its reader saw, for how
+-- many milliseconds outputs are shown without a release, if there is a limit, and what its client may do
 pub record Images : Type 0 where
   pub told : Option Book
   pub seen : List Release
   pub limit : Option ℕ
+  pub access : Access
 
-abbrev pub images_of : Option Book → List Release → Option ℕ → Images
-images_of told seen limit = record { told = told; seen = seen; limit = limit }
+abbrev pub images_of : Option Book → List Release → Option ℕ → Access → Images
+images_of told seen limit access = record { told = told; seen = seen; limit = limit; access = access }
 
 -- whether outputs are stale, by the age that they have when it's asked; without a limit they never are
 abbrev pub IsJudged : Option ℕ → Bool → Type 0
@@ -51,17 +53,19 @@ IsJudged None stale = stale ≡ false
 IsJudged (Some limit) stale = (age : Option ℕ) × (stale ≡ is_stale (Some limit) age)
 
 -- What the reader shows never goes back; the reply is the table's for it, or exception 4 in place of outputs that are
--- stale, and the header is echoed.
+-- stale, or exception 1 in place of a write of who may only read, and the header is echoed.
 pub record Answers (before : Images) (request reply : Adu) (after : Images) : Type 0 where
   pub seen : IsPrefix before.seen after.seen
   pub rising : IsRising after.seen
   pub limit : after.limit ≡ before.limit
+  pub access : after.access ≡ before.access
   pub stale : Bool
   pub judged : IsJudged before.limit stale
   pub transaction : reply.transaction ≡ request.transaction
   pub unit : reply.unit ≡ request.unit
   pub pdu : Replies before.told after.told
-      (λ staged refused. timely_reply stale request.pdu staged (shown after.seen).image.cells refused) reply.pdu
+      (λ staged refused. permitted_reply before.access stale request.pdu staged (shown after.seen).image.cells refused)
+      reply.pdu
 
 -- these requests, one behind another
 abbrev pub AnswersAll : Images → List Adu → List Adu → Images → Type 0

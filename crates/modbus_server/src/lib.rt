@@ -18,6 +18,15 @@
 //! let seats = open.suspend(); // none is any more
 //! ```
 //!
+//! Only some may be let in, and some of them to read alone, by the addresses that they come from; and there may be a
+//! second port, where everybody only reads. It's open whenever the first one is, and shows the same:
+//!
+//! ```rust
+//! let seats = seats.for_clients(Clients { allowed: Some(plant), readers: Some(office) })?;
+//! let seats = seats.with_reading_port(shown_again)?; // a reader for each client that is served there at once
+//! let open = seats.open_both(door, Some(reading_door))?;
+//! ```
+//!
 //! Proved: `reply` is the table of functions, with its order of checks, cells and reply, by the bytes of a request and by
 //! its values (`values_are_served`); a double word whose registers are written by one request is never seen half written
 //! (`doubles_are_whole`). `serve_session` writes the replies in order, each by what its reader shows, behind
@@ -26,7 +35,10 @@
 //! by Closed only at the reader's end, by a fault of the header only where the stream has it, by Device only where a
 //! device failed.
 //!
-//! By its code alone: that what is counted of a piece is added to the traffic once its replies went out.
+//! What a client may do is decided by the port and by the address (`specs/Access`: `access_of`); whatever a session does
+//! with who may only read, nothing is staged (`readers_stage_nothing`, over a staging that tells its book).
+//!
+//! By its code alone: that each session is asked what its client may do, and that what is counted of a piece is added to the traffic once its replies went out.
 //!
 //! Shown by tests: that a reply doesn't wait for the next request, and that the read for it enters anew (`modbus.rows`
 //! of `tools/serving`, with sessions that are cut anywhere); the service (`tools/try-serve`); that
@@ -36,14 +48,16 @@
 mod counting;
 mod doubles;
 mod outputs;
+mod rights;
 mod seats;
 mod serve;
 mod service;
 mod values;
 
 pub use doubles::doubles_are_whole;
-pub use modbus_replies::{reply, timely_reply};
+pub use modbus_replies::{Access, permitted_reply, read_reply, reply, timely_reply};
 pub use outputs::Outputs;
+pub use rights::readers_stage_nothing;
 pub use seats::{Seats, Shown};
 pub use serve::{SessionEnd, serve_session};
 pub use service::{OpenServer, Server};

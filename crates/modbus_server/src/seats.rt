@@ -1,12 +1,15 @@
 //! What clients are served with, whether a port is open or not.
 
 use crate::outputs::Outputs;
+use crate::rights::access_of;
 use crate::serve::serve_session;
-use crate::service::OpenServer;
+use crate::service::{OpenServer, Reading};
 use io_image::{Naming, ReleasedReader, Stage, StageBook, Staging, Stamp};
 use io_model::Counted;
+use modbus_replies::Access;
+use net_addresses::Clients;
 use plc_host::{Failed, Host, ServiceRuntime, Traffic};
-use plc_listener::{Connection, Door, Listener, Session, WhenFull};
+use plc_listener::{Connection, Door, Listener, OpenListener, Session, WhenFull};
 use std::alloc::{AllocError, Global};
 use std::sync::{Arc, Wait};
 use std::time::{Clock, Duration};
@@ -28,11 +31,16 @@ pub(crate) struct Seat<R: Clock + Drop, J: Naming> {
     stage: Arc<Stage>,
     outputs: Outputs<J, Arc<Stamp<R>>>,
     traffic: Arc<Traffic>,
+    /// What may be done at its port.
+    port: Access,
+    /// Who may only read, wherever.
+    clients: Arc<Clients>,
 }
 
 impl<R: Wait + Clock + Copy + Drop, J: Naming> Session<R> for Seat<R, J> {
     fn serve(&mut self, host: &Host<R>, connection: &Connection<'_, R>) {
         self.traffic.begin_session();
+        self.outputs.access = access_of(self.port, &self.clients, connection.peer());
         let _ = serve_session(
             host,
             &self.traffic,
@@ -45,11 +53,19 @@ impl<R: Wait + Clock + Copy + Drop, J: Naming> Session<R> for Seat<R, J> {
     }
 }
 
+/// What the seats of a port have in common.
+#[derive(Drop)]
+struct AtPort {
+    stage: Arc<Stage>,
+    traffic: Arc<Traffic>,
+    port: Access,
+    clients: Arc<Clients>,
+}
+
 /// A seat for each of the readers.
 fn seats_of<R: Clock + Drop, J: Naming>(
     alloc: Global,
-    stage: &Arc<Stage>,
-    traffic: &Arc<Traffic>,
+    at: &AtPort,
     shown: Shown<R, J>,
 ) -> Result<Vec<Seat<R, J>>, AllocError> {
     let Shown {
@@ -60,16 +76,35 @@ fn seats_of<R: Clock + Drop, J: Naming>(
     let mut seats = Vec::new(alloc);
     for released in readers {
         seats.push(Seat {
-            stage: Arc::try_clone(stage)?,
+            stage: Arc::try_clone(&at.stage)?,
             outputs: Outputs {
                 released,
                 ages: Arc::try_clone(&stamp)?,
                 limit,
+                access: at.port,
             },
-            traffic: Arc::try_clone(traffic)?,
+            traffic: Arc::try_clone(&at.traffic)?,
+            port: at.port,
+            clients: Arc::try_clone(&at.clients)?,
         })?;
     }
     Ok(seats)
+}
+
+/// The same seats, for these clients.
+fn for_clients<R: Clock + Drop, J: Naming>(
+    alloc: Global,
+    seats: Vec<Seat<R, J>>,
+    clients: &Arc<Clients>,
+) -> Result<Vec<Seat<R, J>>, AllocError> {
+    let mut kept = Vec::new(alloc);
+    for seat in seats {
+        kept.push(Seat {
+            clients: Arc::try_clone(clients)?,
+            ..seat
+        })?;
+    }
+    Ok(kept)
 }
 
 /// What clients are served with, at a port that opens and closes: a seat for each that is served at once, and the
@@ -78,6 +113,10 @@ fn seats_of<R: Clock + Drop, J: Naming>(
 pub struct Seats<R: ServiceRuntime, J: Naming> {
     pub(crate) host: Host<R>,
     pub(crate) seats: Vec<Seat<R, J>>,
+    /// Those at the port for reading alone, if there is one.
+    pub(crate) reading: Vec<Seat<R, J>>,
+    /// Who may come to either port.
+    pub(crate) clients: Arc<Clients>,
     pub(crate) stage: Arc<Stage>,
     pub(crate) traffic: Arc<Traffic>,
     /// A session ends whose client has no whole request for so long, or doesn't take its replies.
@@ -94,15 +133,53 @@ impl<R: ServiceRuntime, J: Naming> Seats<R, J> {
         idle: Duration,
         traffic: Arc<Traffic>,
     ) -> Result<Seats<R, J>, Failed> {
-        let stage = Arc::new(host.alloc, Stage::new(StageBook::new(host.alloc)))?;
-        let seats = seats_of(host.alloc, &stage, &traffic, shown)?;
+        let alloc = host.alloc;
+        let at = AtPort {
+            stage: Arc::new(alloc, Stage::new(StageBook::new(alloc)))?,
+            traffic,
+            port: Access::ReadsAndWrites,
+            clients: Arc::new(alloc, Clients::all())?,
+        };
+        let seats = seats_of(alloc, &at, shown)?;
+        let AtPort {
+            stage,
+            traffic,
+            clients,
+            ..
+        } = at;
         Ok(Seats {
             host,
             seats,
+            reading: Vec::new(alloc),
+            clients,
             stage,
             traffic,
             idle,
         })
+    }
+
+    /// The same, for these clients alone.
+    pub fn for_clients(self, clients: Clients) -> Result<Seats<R, J>, AllocError> {
+        let alloc = self.host.alloc;
+        let clients = Arc::new(alloc, clients)?;
+        Ok(Seats {
+            seats: for_clients(alloc, self.seats, &clients)?,
+            reading: for_clients(alloc, self.reading, &clients)?,
+            clients,
+            ..self
+        })
+    }
+
+    /// The same, with a port for reading alone: so many clients are served there at once as there are readers here.
+    pub fn with_reading_port(self, shown: Shown<R, J>) -> Result<Seats<R, J>, AllocError> {
+        let at = AtPort {
+            stage: Arc::try_clone(&self.stage)?,
+            traffic: Arc::try_clone(&self.traffic)?,
+            port: Access::ReadsAlone,
+            clients: Arc::try_clone(&self.clients)?,
+        };
+        let reading = seats_of(self.host.alloc, &at, shown)?;
+        Ok(Seats { reading, ..self })
     }
 
     /// The inputs that the sessions stage, for a thread of its own.
@@ -118,23 +195,68 @@ impl<R: ServiceRuntime, J: Naming> Seats<R, J> {
     }
 }
 
+/// Lets these clients in at a door, to these seats.
+fn opened<R: ServiceRuntime, J: Naming + Send + Sync + 'static>(
+    host: Host<R>,
+    door: Door,
+    seats: Vec<Seat<R, J>>,
+    idle: Duration,
+    clients: &Arc<Clients>,
+) -> Result<OpenListener<R, Seat<R, J>>, Failed> {
+    let listener = Listener::new(host, door, seats, idle, WhenFull::Closes)?;
+    listener.for_clients(Arc::try_clone(clients)?).open()
+}
+
+/// The same at a door for reading alone, if there is one.
+fn opened_for_reading<R: ServiceRuntime, J: Naming + Send + Sync + 'static>(
+    host: Host<R>,
+    door: Option<Door>,
+    seats: Vec<Seat<R, J>>,
+    idle: Duration,
+    clients: &Arc<Clients>,
+) -> Result<Reading<R, J>, Failed> {
+    match door {
+        Some(door) => Ok(Reading::Open(opened(host, door, seats, idle, clients)?)),
+        None => Ok(Reading::Closed(seats)),
+    }
+}
+
 impl<R: ServiceRuntime, J: Naming + Send + Sync + 'static> Seats<R, J> {
     /// Lets clients in at this door from now on.
     pub fn open(self, door: Door) -> Result<OpenServer<R, J>, Failed> {
+        self.open_both(door, None)
+    }
+
+    /// Lets clients in at this door from now on, and those who only read at the other one, if there is one.
+    pub fn open_both(
+        self,
+        door: Door,
+        reading_door: Option<Door>,
+    ) -> Result<OpenServer<R, J>, Failed> {
         let Seats {
             host,
             seats,
+            reading,
+            clients,
             stage,
             traffic,
             idle,
         } = self;
-        let listener = Listener::new(host, door, seats, idle, WhenFull::Closes)?;
-        Ok(OpenServer {
-            host,
-            listener: listener.open()?,
-            stage,
-            traffic,
-            idle,
-        })
+        let reading = opened_for_reading(host, reading_door, reading, idle, &clients)?;
+        match opened(host, door, seats, idle, &clients) {
+            Ok(listener) => Ok(OpenServer {
+                host,
+                listener,
+                reading,
+                clients,
+                stage,
+                traffic,
+                idle,
+            }),
+            Err(failed) => {
+                reading.close();
+                Err(failed)
+            }
+        }
     }
 }

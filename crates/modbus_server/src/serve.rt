@@ -9,7 +9,7 @@ use crate::counting::count_reply;
 use crate::outputs::Outputs;
 use io_image::{Ages, Naming, Staging};
 use io_model::{CountedRead, CountedWrite, write_all};
-use modbus_replies::timely_reply;
+use modbus_replies::permitted_reply;
 use modbus_wire::{Adu, HeaderFault, Session, SessionFault, know_any_pieces};
 use plc_host::{Host, Requests, Traffic};
 use std::alloc::AllocError;
@@ -37,8 +37,8 @@ fn answer<S: Staging, J: Naming, A: Ages>(
     outputs: &mut Outputs<J, A>,
 ) -> Adu
     requires { IsFramed request.now }
-    ensures is { Answers (images_of (S.told staging.old) outputs.old.released outputs.old.limit) request.now result
-        (images_of (S.told staging.new) outputs.new.released outputs.new.limit) }
+    ensures is { Answers (images_of (S.told staging.old) outputs.old.released outputs.old.limit outputs.old.access) request.now result
+        (images_of (S.told staging.new) outputs.new.released outputs.new.limit outputs.new.access) }
     ensures short { length result.pdu ≤ 253 }
 {
     let are_stale = outputs.are_stale();
@@ -46,7 +46,13 @@ fn answer<S: Staging, J: Naming, A: Ages>(
     Adu {
         transaction: request.transaction,
         unit: request.unit,
-        pdu: timely_reply(request.pdu.as_slice(), staging, &view, are_stale),
+        pdu: permitted_reply(
+            outputs.access,
+            request.pdu.as_slice(),
+            staging,
+            &view,
+            are_stale,
+        ),
     }
 }
 
@@ -60,11 +66,11 @@ fn answer_all<S: Staging, J: Naming, A: Ages>(
 ) -> Result<(), AllocError>
     requires { AllByRecursion IsFramed requests.now }
     ensures ok { OnOk result
-        (Adds (images_of (S.told staging.old) outputs.old.released outputs.old.limit) requests.now
-        out.old.items out.new.items counts.old counts.new (images_of (S.told staging.new) outputs.new.released outputs.new.limit)) }
+        (Adds (images_of (S.told staging.old) outputs.old.released outputs.old.limit outputs.old.access) requests.now
+        out.old.items out.new.items counts.old counts.new (images_of (S.told staging.new) outputs.new.released outputs.new.limit outputs.new.access)) }
     ensures err { OnErr result
-        (AnswersSome (images_of (S.told staging.old) outputs.old.released outputs.old.limit) requests.now
-        (images_of (S.told staging.new) outputs.new.released outputs.new.limit)) }
+        (AnswersSome (images_of (S.told staging.old) outputs.old.released outputs.old.limit outputs.old.access) requests.now
+        (images_of (S.told staging.new) outputs.new.released outputs.new.limit outputs.new.access)) }
 {
     for request in requests {
         let reply = answer(request, staging, outputs);
@@ -93,11 +99,11 @@ fn serve_piece<W: CountedWrite, S: Staging, J: Naming, A: Ages>(
 ) -> Result<(), SessionEnd>
     requires { IsRest buffers.old.session }
     ensures served { MatchResult result
-        (λ _. Serves buffers.old.session piece.now buffers.new.session (images_of (S.told staging.old) outputs.old.released outputs.old.limit)
-        (images_of (S.told staging.new) outputs.new.released outputs.new.limit) (W.held writer.old) (W.held writer.new)
+        (λ _. Serves buffers.old.session piece.now buffers.new.session (images_of (S.told staging.old) outputs.old.released outputs.old.limit outputs.old.access)
+        (images_of (S.told staging.new) outputs.new.released outputs.new.limit outputs.new.access) (W.held writer.old) (W.held writer.new)
         × IsRest buffers.new.session)
         (λ end. Stops end buffers.old.session piece.now (Failed (W.faults writer.old) (W.faults writer.new))
-        (images_of (S.told staging.old) outputs.old.released outputs.old.limit) (images_of (S.told staging.new) outputs.new.released outputs.new.limit)
+        (images_of (S.told staging.old) outputs.old.released outputs.old.limit outputs.old.access) (images_of (S.told staging.new) outputs.new.released outputs.new.limit outputs.new.access)
         (W.held writer.old) (W.held writer.new)) }
     ensures counts { W.faults writer.old ≤ W.faults writer.new }
 {
@@ -126,7 +132,7 @@ fn serve_piece<W: CountedWrite, S: Staging, J: Naming, A: Ages>(
 
 /// Serves a session to its end. It reads requests in pieces, as they come, and writes the replies in order: those to
 /// the requests that a piece makes whole in one write, each by what `outputs` shows when its turn comes, or by exception
-/// 4 where it asks for outputs that are stale then. Where it ends by `Device`, or for want of memory, a prefix of the
+/// 4 where it asks for outputs that are stale then, and a write of who may only read by exception 1. Where it ends by `Device`, or for want of memory, a prefix of the
 /// replies went out, and requests whose replies didn't may have been done. `traffic` counts the requests that were
 /// answered, as they are.
 pub fn serve_session<
@@ -146,7 +152,7 @@ pub fn serve_session<
 ) -> SessionEnd
     ensures { Talks result (R.left reader.old) (R.left reader.new) (R.faults reader.old) (R.faults reader.new)
         (W.held writer.old) (W.held writer.new) (W.faults writer.old) (W.faults writer.new)
-        (images_of (S.told staging.old) outputs.old.released outputs.old.limit) (images_of (S.told staging.new) outputs.new.released outputs.new.limit) }
+        (images_of (S.told staging.old) outputs.old.released outputs.old.limit outputs.old.access) (images_of (S.told staging.new) outputs.new.released outputs.new.limit outputs.new.access) }
 {
     let mut buffers = Buffers {
         session: Session::new(),

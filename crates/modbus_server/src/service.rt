@@ -2,6 +2,7 @@
 
 use crate::seats::{Seat, Seats, Shown};
 use io_image::{Naming, Stage};
+use net_addresses::Clients;
 use plc_host::{Failed, Host, ServiceRuntime, Traffic};
 use plc_listener::{Door, OpenListener};
 use std::alloc::AllocError;
@@ -12,6 +13,8 @@ use std::time::Duration;
 #[derive(Drop)]
 pub struct Server<R: ServiceRuntime, J: Naming> {
     door: Door,
+    /// Where clients only read, if there's such a door.
+    reading_door: Option<Door>,
     seats: Seats<R, J>,
 }
 
@@ -27,13 +30,67 @@ impl<R: ServiceRuntime, J: Naming + Send + Sync + 'static> Server<R, J> {
         traffic: Arc<Traffic>,
     ) -> Result<Server<R, J>, Failed> {
         let seats = Seats::new(host, shown, idle, traffic)?;
-        Ok(Server { door, seats })
+        Ok(Server {
+            door,
+            reading_door: None,
+            seats,
+        })
+    }
+
+    /// The same, for these clients alone.
+    pub fn for_clients(self, clients: Clients) -> Result<Server<R, J>, AllocError> {
+        Ok(Server {
+            seats: self.seats.for_clients(clients)?,
+            door: self.door,
+            reading_door: self.reading_door,
+        })
+    }
+
+    /// The same, with this door for reading alone: so many clients are served there at once as there are readers here.
+    pub fn with_reading_door(
+        self,
+        door: Door,
+        shown: Shown<R, J>,
+    ) -> Result<Server<R, J>, AllocError> {
+        Ok(Server {
+            seats: self.seats.with_reading_port(shown)?,
+            door: self.door,
+            reading_door: Some(door),
+        })
     }
 
     /// Lets clients in from now on.
     pub fn open(self) -> Result<OpenServer<R, J>, Failed> {
-        let Server { door, seats } = self;
-        seats.open(door)
+        let Server {
+            door,
+            reading_door,
+            seats,
+        } = self;
+        seats.open_both(door, reading_door)
+    }
+}
+
+/// What clients who only read are served with: seats that none takes, or those at an open port.
+pub(crate) enum Reading<R: ServiceRuntime, J: Naming> {
+    Closed(Vec<Seat<R, J>>),
+    Open(OpenListener<R, Seat<R, J>>),
+}
+
+impl<R: ServiceRuntime, J: Naming> Reading<R, J> {
+    /// Ends each session, and lets none in any more.
+    pub(crate) fn close(self) -> Vec<Seat<R, J>> {
+        match self {
+            Reading::Closed(seats) => seats,
+            Reading::Open(listener) => listener.close(),
+        }
+    }
+
+    /// The port's number, if it's open.
+    fn port(&self) -> Option<u16> {
+        match self {
+            Reading::Closed(_) => None,
+            Reading::Open(listener) => Some(listener.port()),
+        }
     }
 }
 
@@ -41,6 +98,8 @@ impl<R: ServiceRuntime, J: Naming + Send + Sync + 'static> Server<R, J> {
 pub struct OpenServer<R: ServiceRuntime, J: Naming> {
     pub(crate) host: Host<R>,
     pub(crate) listener: OpenListener<R, Seat<R, J>>,
+    pub(crate) reading: Reading<R, J>,
+    pub(crate) clients: Arc<Clients>,
     pub(crate) stage: Arc<Stage>,
     pub(crate) traffic: Arc<Traffic>,
     pub(crate) idle: Duration,
@@ -50,6 +109,11 @@ impl<R: ServiceRuntime, J: Naming> OpenServer<R, J> {
     /// The port's number.
     pub fn port(&self) -> u16 {
         self.listener.port()
+    }
+
+    /// The number of the port for reading alone, if there is one.
+    pub fn reading_port(&self) -> Option<u16> {
+        self.reading.port()
     }
 
     /// The inputs that the sessions stage.
@@ -68,6 +132,8 @@ impl<R: ServiceRuntime, J: Naming> OpenServer<R, J> {
         let OpenServer {
             host,
             listener,
+            reading,
+            clients,
             stage,
             traffic,
             idle,
@@ -75,6 +141,8 @@ impl<R: ServiceRuntime, J: Naming> OpenServer<R, J> {
         Seats {
             host,
             seats: listener.close(),
+            reading: reading.close(),
+            clients,
             stage,
             traffic,
             idle,

@@ -27,4 +27,4 @@ hmac key text = sha256 (xored (key_block key) 0x5C ++ sha256 (xored (key_block k
 
 -- it's the sum in the making of so much of a text, under this key
 abbrev pub Sums : Hmac → List ℕ → List ℕ → Type 0
-Sums h key text = Holds256 h.inner (xored (key_block key) 0x36 ++ text) × (h.outer ≡ xored (key_block key) 0x5C)
+Sums h key text = Holds256 h.inner (xored (key_block key) 0x36 ++ text) × Holds256 h.outer (xored (key_block key) 0x5C)

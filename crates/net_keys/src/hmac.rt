@@ -1,6 +1,7 @@
 //! HMAC with SHA-256 (FIPS 198-1).
 
 ghost use Rattle.std.specs.Prelude.{◌≡◌, ◌≤◌, ℕ, List, [], ◌++◌, length};
+ghost use Rattle.sha2.specs.Hashers.{Holds256};
 ghost use Rattle.net_keys.specs.Hmac.{Sums, filled, hmac, key_block, xored};
 
 use sha2::{Digest, Sha256};
@@ -16,9 +17,10 @@ const OUTSIDE: u8 = 0x5C;
 /// A sum in the making, of a text that comes in pieces.
 #[derive(Drop)]
 pub struct Hmac {
+    /// It holds the key's block, and the text behind that.
     inner: Sha256,
-    /// The key, as it goes before the inner sum.
-    outer: [u8; 64],
+    /// It holds the key's block, behind which the inner sum goes.
+    outer: Sha256,
 }
 
 /// These bytes, filled up by zeros to a block.
@@ -55,17 +57,44 @@ fn xored(block: &[u8; 64], by: u8) -> [u8; 64]
     changed
 }
 
+/// A hasher that holds the block, each byte changed by exclusive or with this one.
+fn behind(block: &[u8; 64], by: u8) -> Sha256
+    ensures { Holds256 result (xored block.now by) }
+{
+    let mut hasher = Sha256::new();
+    hasher.update(&xored(block, by));
+    hasher
+}
+
+/// A hasher as this one is.
+fn copy_of(hasher: &Sha256) -> Sha256
+    ensures { result ≡ hasher.now }
+{
+    match hasher.clone() {
+        Ok(copy) => copy,
+        Err(_) => unreachable!(),
+    }
+}
+
 impl Hmac {
     /// The sum of no text yet, under this key.
     pub fn new(key: &[u8]) -> Hmac
         ensures { Sums result key.now [] }
     {
         let block = key_block(key);
-        let mut inner = Sha256::new();
-        inner.update(&xored(&block, INSIDE));
         Hmac {
-            inner,
-            outer: xored(&block, OUTSIDE),
+            inner: behind(&block, INSIDE),
+            outer: behind(&block, OUTSIDE),
+        }
+    }
+
+    /// The sum of as much of a text as this one.
+    pub(crate) fn copy(&self) -> Hmac
+        ensures { result ≡ self.now }
+    {
+        Hmac {
+            inner: copy_of(&self.inner),
+            outer: copy_of(&self.outer),
         }
     }
 
@@ -80,9 +109,8 @@ impl Hmac {
     pub fn finalize(self) -> [u8; 32]
         ensures { (key text : List ℕ) → Sums self key text → result ≡ hmac key text }
     {
-        let mut outer = Sha256::new();
-        outer.update(&self.outer);
-        outer.update(&self.inner.finalize());
+        let Hmac { inner, mut outer } = self;
+        outer.update(&inner.finalize());
         outer.finalize()
     }
 }

@@ -23,13 +23,16 @@
 //! name of the key, and both nonces. It's of the end that seals, the record's number and its body (`specs/Sealing`). A
 //! connection is met only where the other end's first sum is right for just these challenges, and else refused for the
 //! first reason (`specs/Meeting`). Other records have other texts, before they are summed (`texts_are_told`). What an
-//! end opened is a prefix of what was sealed at the other end of the same connection, or a sum was forged
-//! (`only_sealed_is_opened`; `IsForged` in `specs/Forging`).
+//! end opened is a prefix of what was sealed at the other end of the same connection, or nobody with the key summed
+//! some text (`only_sealed_is_opened`). As that is always so of some text, the law that counts is in `laws_keys`.
+//!
+//! A connection hashes the two blocks of its key once (`SumKey`): so a short record costs two blocks of SHA-256, and not
+//! four.
 //!
 //! By its code alone: that the time which a comparison takes tells nothing of how much of a wrong sum was right, since
-//! it looks at all bytes; that no key is printed, since a key has no text but the one of `Key::spell`. Rows with the
-//! vectors of RFC 4231 are to come. Not here: that nonces are fresh, and that whoever has
-//! the key keeps to this. Nothing is secret but the keys, and these stay in memory until it's used again.
+//! it looks at all bytes; that no key is printed, since a key has no text but the one of `Key::spell`. Tested: the
+//! vectors of RFC 4231 (rows of `tests_bytes`). Not here: that nonces are fresh, and that whoever has the key keeps to
+//! this. Nothing is secret but the keys, and these stay in memory until it's used again.
 #![tactic(auto)]
 
 mod challenge;
@@ -39,6 +42,7 @@ mod keys;
 mod laws;
 mod meeting;
 mod sealing;
+mod sum_key;
 
 pub use challenge::{CHALLENGE, Challenge, ChallengeFault};
 pub use hmac::Hmac;

@@ -13,6 +13,7 @@ use crate::hmac::Hmac;
 use crate::key::Key;
 use crate::keys::Keys;
 use crate::sealing::{Opener, SUM, Sealer, Side, sum_of};
+use crate::sum_key::SumKey;
 
 /// Both ways over a connection whose other end has proved that it has the key.
 #[derive(Drop)]
@@ -32,7 +33,7 @@ pub struct Dialled {
 #[derive(Drop)]
 pub struct Answered {
     own: Challenge,
-    key: [u8; 32],
+    key: SumKey,
 }
 
 /// The key of a connection, which both challenges make.
@@ -79,9 +80,9 @@ impl Dialled {
             Ok(()) => {}
             Err(fault) => return Err(fault),
         }
-        let key = connection_key(&self.pair, &self.own, answer);
+        let key = SumKey::new(connection_key(&self.pair, &self.own, answer));
         let mut opener = Opener {
-            key,
+            key: key.copy(),
             side: Side::Listener,
             next: 0,
         };
@@ -164,7 +165,7 @@ impl Keys {
         let pair = key.of_pair(challenge.from, own);
         Ok(Answered {
             own: answer,
-            key: connection_key(&pair, challenge, &answer),
+            key: SumKey::new(connection_key(&pair, challenge, &answer)),
         })
     }
 }
@@ -190,9 +191,9 @@ impl Answered {
         ensures refused { OnErr result (result ≡ Err Forged) }
         ensures forged { OnErr result (sum.now ≡ sum_of self.key Dialler 0 body.now → ⊥) }
     {
-        let key = self.key;
+        let Answered { key, .. } = self;
         let mut opener = Opener {
-            key,
+            key: key.copy(),
             side: Side::Dialler,
             next: 0,
         };

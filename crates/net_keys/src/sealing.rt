@@ -4,8 +4,8 @@ ghost use Rattle.std.specs.Prelude.{◌≡◌, ◌-◌, ◌^◌, ◌↔◌, true
 ghost use Rattle.net_keys.specs.Sealing.{Opens, Seals, side_byte, sum_of};
 ghost use Rattle.net_keys.specs.declared.sealing.RecordFault.TheVariants.{Forged, Last};
 
-use crate::hmac::Hmac;
 use crate::key::front;
+use crate::sum_key::SumKey;
 use thiserror::Error;
 
 /// So many bytes has a sum.
@@ -42,10 +42,10 @@ fn side_byte(side: Side) -> u8
 }
 
 /// The sum of a record: of the end that seals it, its number, and its body.
-pub(crate) fn sum_of(key: &[u8; 32], side: Side, number: u64, body: &[u8]) -> [u8; SUM]
+pub(crate) fn sum_of(key: &SumKey, side: Side, number: u64, body: &[u8]) -> [u8; SUM]
     ensures { result ≡ sum_of key.now side number body.now }
 {
-    let mut hmac = Hmac::new(key);
+    let mut hmac = key.begin();
     hmac.update(&[side_byte(side)]);
     hmac.update(&number.to_be_bytes());
     hmac.update(body);
@@ -66,7 +66,7 @@ fn is_one_sum(sum: &[u8; SUM], other: &[u8; SUM]) -> bool
 /// What seals the records that go one way over a connection, each under the next number.
 #[derive(Drop)]
 pub struct Sealer {
-    pub(crate) key: [u8; 32],
+    pub(crate) key: SumKey,
     pub(crate) side: Side,
     pub(crate) next: u64,
 }
@@ -92,7 +92,7 @@ impl Sealer {
 /// What opens the records that come the other way, each under the next number.
 #[derive(Drop)]
 pub struct Opener {
-    pub(crate) key: [u8; 32],
+    pub(crate) key: SumKey,
     pub(crate) side: Side,
     pub(crate) next: u64,
 }

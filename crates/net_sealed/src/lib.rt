@@ -16,7 +16,7 @@
 //! Proved: bytes are given only of a body that was opened under the next number, with the sum that stood behind it
 //! (`specs/Coming`), and a record that isn't so, or is longer than any that is sealed, ends the connection for good.
 //! What is taken is sealed under the next number, and its bytes wait until they are written (`specs/Going`). What
-//! follows for whole connections is in `net_keys` (`only_sealed_is_opened`).
+//! follows for whole connections is in `laws_keys` (`only_sealed_is_heard`).
 #![tactic(auto)]
 
 mod incoming;

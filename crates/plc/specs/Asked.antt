@@ -57,7 +57,7 @@ AsksToChange asked asking = IsConsole asked asking.console
 -- words ask for it, and all but the last two with just the settings that they name. All else is done at once.
 abbrev pub IsAsAsked : Words → Outcome → Type 0
 IsAsAsked asked (outcomes.Done status) = Unit {0}
-IsAsAsked (words.Serve source stores report settings operators) (outcomes.Serve serving) = serving.service.settings ≡ settings
+IsAsAsked (words.Serve source stores report settings operators clients) (outcomes.Serve serving) = serving.service.settings ≡ settings
 IsAsAsked (words.ServeMachine group directory trace) (outcomes.ServeMachine machine) =
     string_bytes machine.directory ≡ directory.now
 IsAsAsked (words.Field field check once stop status) (outcomes.Carry carrying) =

@@ -404,10 +404,11 @@ fn prepared<E: CountedWrite>(
             report,
             settings,
             operators,
+            clients,
         } => {
             let operators = operators_of(rt, operators, err)?;
             let serving = Serving::of(rt, source, stores.as_slice(), report, settings, err)?;
-            Outcome::Serve(serving.with(operators))
+            Outcome::Serve(serving.with(operators, clients))
         }
         _ => return Ok(None),
     }))

@@ -8,7 +8,7 @@ use crate::showing::showing_of;
 use io_model::CountedWrite;
 use plc_host::{Failed, Host};
 use plc_serve::{Service, tell_failed};
-use plc_settings::{ConsoleAt, Operators, Settings};
+use plc_settings::{ConsoleAt, ModbusClients, Operators, Settings};
 use std::alloc::AllocError;
 use std::fs;
 use std::net::{SocketAddr, TcpListener};
@@ -59,12 +59,12 @@ impl Serving {
 }
 
 impl Serving {
-    /// The same, with operators who come so.
-    pub(crate) fn with(self, operators: Operators) -> Serving
+    /// The same, with operators who come so, and these Modbus clients.
+    pub(crate) fn with(self, operators: Operators, clients: ModbusClients) -> Serving
         ensures { result.service.settings ≡ self.service.settings }
     {
         Serving {
-            service: self.service.with(operators),
+            service: self.service.with(operators, clients),
             report: self.report,
         }
     }

@@ -10,7 +10,9 @@ use crate::patience::Patience;
 use crate::session::Unanswered;
 use il_model::{Answer, Command};
 use plc_host::Host;
+use plc_sight::SnapshotBoard;
 use plc_status::{Deed, Journal, Notice};
+use std::alloc::AllocError;
 use std::ops::Range;
 use std::sync::atomic::{AtomicBool, Ordering};
 use std::sync::{Arc, Wait};
@@ -42,6 +44,8 @@ pub struct Desk<R: Copy + Drop, L: Drop> {
     others: Option<Others>,
     /// Set before the group can know of a change of the program, if that is wanted.
     has_changed: Option<Arc<AtomicBool>>,
+    /// Where a replica leaves a snapshot of the controller for those who ask what it has, if one does.
+    sight: Option<Arc<SnapshotBoard>>,
 }
 
 impl<R: Wait + Clock + Copy + Drop, L: Link + Drop> Desk<R, L> {
@@ -64,6 +68,7 @@ impl<R: Wait + Clock + Copy + Drop, L: Link + Drop> Desk<R, L> {
             journal,
             others: None,
             has_changed: None,
+            sight: None,
         }
     }
 
@@ -84,6 +89,14 @@ impl<R: Wait + Clock + Copy + Drop, L: Link + Drop> Desk<R, L> {
         }
     }
 
+    /// The same, and what the controller has is told by the snapshots that a replica leaves there.
+    pub fn seeing(self, sight: Arc<SnapshotBoard>) -> Desk<R, L> {
+        Desk {
+            sight: Some(sight),
+            ..self
+        }
+    }
+
     /// The same, where other consoles give commands, too.
     pub fn among(self, others: Others) -> Desk<R, L> {
         Desk {
@@ -95,6 +108,15 @@ impl<R: Wait + Clock + Copy + Drop, L: Link + Drop> Desk<R, L> {
     /// What it knows of the controller beside the answers of its commands, where others give commands, too.
     pub(crate) fn others(&self) -> Option<&Others> {
         self.others.as_ref()
+    }
+
+    /// Where a replica leaves snapshots of the controller for those who ask what it has, if one does.
+    pub(crate) fn sight(&self) -> Result<Option<Arc<SnapshotBoard>>, AllocError> {
+        match (&self.sight, &self.others) {
+            (Some(sight), _) => Ok(Some(Arc::try_clone(sight)?)),
+            (None, Some(others)) => Ok(Some(Arc::try_clone(&others.board)?)),
+            (None, None) => Ok(None),
+        }
     }
 
     /// The replicas of which it tells.

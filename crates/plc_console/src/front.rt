@@ -1,4 +1,4 @@
-//! A session before it has the desk: whoever asks how the controller is needs none.
+//! A session before it has the desk: whoever asks how the controller is, or what it has, needs none.
 
 use crate::line::{Intake, LINE_END, PIECE, Wish, stays};
 use crate::session::{SessionEnd, put_text, refuse};
@@ -9,10 +9,10 @@ use plc_json::Question;
 use std::alloc::AllocError;
 use std::sync::Wait;
 
-/// What tells how a controller is.
-pub(crate) trait TellsStatus {
-    /// The line that answers how it is, with its end.
-    fn status(&mut self) -> Result<Vec<u8>, AllocError>;
+/// What tells how a controller is, and what it has.
+pub(crate) trait TellsWithoutDesk {
+    /// The line that answers a question, with its end; none where the desk is wanted for it.
+    fn answer(&mut self, question: &Question) -> Result<Option<Vec<u8>>, AllocError>;
 }
 
 /// What a line is before its session has the desk.
@@ -24,9 +24,25 @@ enum Before {
     WantsDesk,
 }
 
+/// Answers a question, unless the desk is wanted for it.
+fn tell<W: CountedWrite, T: TellsWithoutDesk>(
+    question: Question,
+    writer: &mut W,
+    teller: &mut T,
+) -> Result<Before, SessionEnd> {
+    match teller.answer(&question) {
+        Ok(Some(line)) => {
+            put_text(line.as_slice(), writer)?;
+            Ok(Before::Answered)
+        }
+        Ok(None) => Ok(Before::WantsDesk),
+        Err(_) => Err(SessionEnd::Memory),
+    }
+}
+
 /// Answers a line that ends here, unless the desk is wanted for it. By the program of the image it's told what is a
 /// command; which one it is, is told once the session has the desk.
-fn answer<R: Wait + Copy, W: CountedWrite, T: TellsStatus>(
+fn answer<R: Wait + Copy, W: CountedWrite, T: TellsWithoutDesk>(
     host: &Host<R>,
     image: &Image,
     intake: &mut Intake,
@@ -39,21 +55,24 @@ fn answer<R: Wait + Copy, W: CountedWrite, T: TellsStatus>(
     if !stays(&wish, &mut intake.refused) {
         return Err(SessionEnd::Dismissed);
     }
-    match wish {
-        Wish::Tell(Question::Status) => match teller.status() {
-            Ok(line) => put_text(line.as_slice(), writer)?,
-            Err(_) => return Err(SessionEnd::Memory),
-        },
-        Wish::Refuse => refuse(writer)?,
-        Wish::Submit(_) | Wish::Tell(_) | Wish::Leave => return Ok(Before::WantsDesk),
+    let before = match wish {
+        Wish::Tell(question) => tell(question, writer, teller)?,
+        Wish::Refuse => {
+            refuse(writer)?;
+            Before::Answered
+        }
+        Wish::Submit(_command) => Before::WantsDesk,
+        Wish::Leave => Before::WantsDesk,
+    };
+    if before == Before::Answered {
+        intake.line.clear();
     }
-    intake.line.clear();
-    Ok(Before::Answered)
+    Ok(before)
 }
 
 /// Answers the lines that end within a piece. What is left of it from the first one on for which the desk is wanted, that
 /// line's end first.
-fn answer_piece<'a, R: Wait + Copy, W: CountedWrite, T: TellsStatus>(
+fn answer_piece<'a, R: Wait + Copy, W: CountedWrite, T: TellsWithoutDesk>(
     host: &Host<R>,
     image: &Image,
     piece: &'a [u8],
@@ -75,9 +94,15 @@ fn answer_piece<'a, R: Wait + Copy, W: CountedWrite, T: TellsStatus>(
 }
 
 /// Answers lines until one comes for which the desk is wanted: that line, and what was read behind it. How the session
-/// ended, where none came. Each line that asks how the controller is, is answered by that, and each that is no command
-/// and no question by `plc: commands`; a line of HTTP, or the third in a row that would be refused, ends the session.
-pub(crate) fn answer_without_desk<R: Wait + Copy, I: CountedRead, W: CountedWrite, T: TellsStatus>(
+/// ended, where none came. Each line that asks how the controller is, or what it has, is answered, and each that is no
+/// command and no question by `plc: commands`; a line of HTTP, or the third in a row that would be refused, ends the
+/// session.
+pub(crate) fn answer_without_desk<
+    R: Wait + Copy,
+    I: CountedRead,
+    W: CountedWrite,
+    T: TellsWithoutDesk,
+>(
     host: &Host<R>,
     image: &Image,
     reader: &mut I,

@@ -12,9 +12,10 @@
 //! open.close(); // ends each session, also one that waits for an answer
 //! ```
 //!
-//! Four clients are served at once. Whoever only asks how the controller is, is told it, whatever the group does; for
-//! anything else a client takes the desk over, which one of them has at a time. Where the console has a key, a client
-//! tells it first, as a line.
+//! Four clients are served at once. Whoever only asks how the controller is, or what it has (`"values"`,
+//! `{"watch": [..]}`), is told it, whatever the group does; for anything else a client takes the desk over, which one of
+//! them has at a time. Where the console has a key, a client tells it first, as a line. What the controller has is told
+//! of one snapshot, which the thread of a replica leaves: by the clauses of `plc_values`.
 //!
 //! Proved: `serve_console` gives each whole line its turn, in order. Its command is submitted and answered once, a name
 //! being that of the program in force, which a change that is done replaces, or it's refused, as a scan is; the line of
@@ -57,8 +58,9 @@ pub use asking::ask;
 pub use desk::{Desk, DeskClient};
 pub use fetching::{Fetched, fetch_image, images_are_read_back};
 pub use mirror::mirrors_stay;
-pub use others::{Others, SnapshotBoard};
+pub use others::Others;
 pub use patience::Patience;
+pub use plc_sight::SnapshotBoard;
 pub use sending::{Reply, send_commands, send_key, worst};
 pub use service::{Console, Entrance, OpenConsole};
 pub use session::{SessionEnd, Submits, Unanswered, serve_console};

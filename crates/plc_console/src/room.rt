@@ -1,15 +1,20 @@
 //! A console's room: sessions of several clients at once, of which one at a time has the desk.
 
-use crate::front::{TellsStatus, answer_without_desk};
+use crate::front::{TellsWithoutDesk, answer_without_desk};
 use crate::key::{first_line, is_key};
+use crate::others::tries;
 use crate::service::Workplace;
 use crate::session::SessionEnd;
 use crate::telling::status_line;
 use il_loader::Image;
+use il_model::Snapshot;
 use io_model::{Counted, write_all};
 use plc_host::Host;
+use plc_json::Question;
 use plc_listener::{Connection, Guest, Session};
+use plc_sight::SnapshotBoard;
 use plc_status::{DoorNotice, Doorway, Notice, StatusReader};
+use plc_values::{values, watched};
 use std::alloc::{AllocError, Global};
 use std::ops::Range;
 use std::sync::atomic::{AtomicBool, Ordering};
@@ -26,6 +31,9 @@ const TRIES: u32 = 2000;
 
 /// In milliseconds, from one look to the next.
 const PAUSE: u64 = 5;
+
+/// What is told of a controller of which no replica leaves a snapshot just now.
+const NO_VALUES: &[u8] = b"plc: no values\n";
 
 /// How a session ends, by what its client is told last.
 #[derive(Clone, Copy, PartialEq, Eq)]
@@ -67,6 +75,8 @@ pub(crate) struct Shown {
     pub(crate) status: Mutex<StatusReader>,
     /// The replicas of which it's told.
     pub(crate) replicas: Range<u8>,
+    /// Where one of them leaves a snapshot of the controller, if one does.
+    pub(crate) sight: Option<Arc<SnapshotBoard>>,
 }
 
 impl Shown {
@@ -77,6 +87,48 @@ impl Shown {
         Ok(status_line(alloc, &status, replicas)?.into_bytes())
     }
 
+    /// A snapshot of the controller that is newer than this call, if it's to be had.
+    fn snapshot<R: Wait + Clock>(&self, rt: &R) -> Option<Snapshot> {
+        match &self.sight {
+            Some(sight) => sight.get(rt, tries(self.takes_part(rt))),
+            None => None,
+        }
+    }
+
+    /// The line that tells what the controller has: all of it, or what these names are.
+    fn seen<R: Wait + Clock + Copy>(
+        &self,
+        host: &Host<R>,
+        names: Option<&[String]>,
+    ) -> Result<Vec<u8>, AllocError> {
+        let Some(snapshot) = self.snapshot(&host.rt) else {
+            return Vec::from_slice(host.alloc, NO_VALUES);
+        };
+        let text = match names {
+            Some(names) => watched(host.alloc, snapshot, names),
+            None => values(host.alloc, snapshot),
+        };
+        match text {
+            Some(text) => Ok(text),
+            None => Vec::from_slice(host.alloc, NO_VALUES),
+        }
+    }
+
+    /// The line that answers a question for which no desk is needed; none where one is.
+    pub(crate) fn answer<R: Wait + Clock + Copy>(
+        &self,
+        host: &Host<R>,
+        question: &Question,
+    ) -> Result<Option<Vec<u8>>, AllocError> {
+        let line = match question {
+            Question::Status => self.line(&host.rt, host.alloc)?,
+            Question::Values => self.seen(host, None)?,
+            Question::Watch(names) => self.seen(host, Some(names.as_slice()))?,
+            _ => return Ok(None),
+        };
+        Ok(Some(line))
+    }
+
     /// Whether the first of the replicas takes part.
     pub(crate) fn takes_part<R: Wait>(&self, rt: &R) -> bool {
         let status = self.status.lock(rt).read();
@@ -84,16 +136,16 @@ impl Shown {
     }
 }
 
-/// What tells a session how the controller is.
+/// What tells a session how the controller is, and what it has.
 #[derive(Drop)]
 struct Teller<'a, R: Copy> {
     host: Host<R>,
     shown: &'a Shown,
 }
 
-impl<R: Wait + Copy> TellsStatus for Teller<'_, R> {
-    fn status(&mut self) -> Result<Vec<u8>, AllocError> {
-        self.shown.line(&self.host.rt, self.host.alloc)
+impl<R: Wait + Clock + Copy> TellsWithoutDesk for Teller<'_, R> {
+    fn answer(&mut self, question: &Question) -> Result<Option<Vec<u8>>, AllocError> {
+        self.shown.answer(&self.host, question)
     }
 }
 

@@ -15,6 +15,7 @@ use io_model::Counted;
 use plc_host::{Failed, Host, ServiceRuntime};
 use plc_json::Question;
 use plc_listener::{Connection, Door, DoorRuntime, Listener, OpenListener, WhenFull};
+use plc_sight::SnapshotBoard;
 use plc_status::{Doorway, Notice, StatusReader};
 use std::alloc::{AllocError, Global};
 use std::io;
@@ -51,16 +52,16 @@ impl<R: Wait + Clock + Copy + Drop, L: Link + Drop> Submits for Informed<R, L> {
     }
 
     fn tell(&mut self, question: Question) -> Result<Vec<u8>, AllocError> {
-        let Host { rt, alloc } = self.host;
+        if let Some(line) = self.shown.answer(&self.host, &question)? {
+            return Ok(line);
+        }
+        let alloc = self.host.alloc;
+        let snapshot = self.mirror.save(alloc)?;
         let line = match question {
-            Question::Forces => forces_line(alloc, &self.mirror.save(alloc)?)?,
-            Question::Breaks => breaks_line(alloc, &self.mirror.save(alloc)?)?,
-            Question::Program => program_line(alloc, &self.mirror.save(alloc)?)?,
-            Question::Image => {
-                let snapshot = self.mirror.save(alloc)?;
-                image_line(alloc, snapshot.image.as_slice())?
-            }
-            Question::Status => return self.shown.line(&rt, alloc),
+            Question::Breaks => breaks_line(alloc, &snapshot)?,
+            Question::Program => program_line(alloc, &snapshot)?,
+            Question::Image => image_line(alloc, snapshot.image.as_slice())?,
+            _ => forces_line(alloc, &snapshot)?,
         };
         Ok(line.into_bytes())
     }
@@ -186,10 +187,12 @@ impl Known {
         image: &Image,
         status: StatusReader,
         replicas: Range<u8>,
+        sight: Option<Arc<SnapshotBoard>>,
     ) -> Result<Known, AllocError> {
         let shown = Shown {
             status: Mutex::new(status),
             replicas,
+            sight,
         };
         let shown = Arc::new(alloc, shown)?;
         let again = Arc::try_clone(&shown)?;
@@ -273,8 +276,8 @@ fn seats<R: ServiceRuntime, L: Relink + Drop>(
 
 impl<R: ServiceRuntime, L: Relink + Send + Drop + 'static> Console<R, L> {
     /// For the commands of a program, which this desk submits; a change of it goes on with another one. What shows of the
-    /// controller is read of `status`. Four clients are served at once. Whoever only asks how the controller is, needs no
-    /// desk; for any other command or question a client takes the desk over from whoever has it.
+    /// controller is read of `status`. Four clients are served at once. Whoever only asks how the controller is, or what
+    /// it has, needs no desk; for any other command or question a client takes the desk over from whoever has it.
     pub fn new(
         host: Host<R>,
         entrance: Entrance,
@@ -282,7 +285,8 @@ impl<R: ServiceRuntime, L: Relink + Send + Drop + 'static> Console<R, L> {
         image: &Image,
         status: StatusReader,
     ) -> Result<Console<R, L>, Failed> {
-        let known = Known::of(host.alloc, image, status, desk.replicas())?;
+        let sight = desk.sight()?;
+        let known = Known::of(host.alloc, image, status, desk.replicas(), sight)?;
         let cutter = desk.link().cutter()?;
         let Entrance { door, idle, key } = entrance;
         let room = room(host, desk, known, key)?;

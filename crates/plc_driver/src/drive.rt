@@ -20,8 +20,9 @@ use io_driver::ScanDriver;
 use io_image::{Naming, Pen, ReleasedWriter, Staging};
 use plc_host::{Failed, Host, ServiceRuntime};
 use plc_settings::Settings;
+use plc_sight::SnapshotBoard;
 use plc_status::{Halt, Journal, Notice, Scan, StatusWriter, halt_in};
-use std::sync::Wait;
+use std::sync::{Arc, Wait};
 use std::time::{Clock, Duration, Instant};
 use vr_model::Message;
 use vr_ports::{Input, Relink, send_all};
@@ -57,6 +58,8 @@ pub struct Parts<L: Drop, S: Drop, J: Naming, P: Pen<J> + Drop> {
     pub status: StatusWriter,
     /// Since when the moments of scans are counted.
     pub begun: Instant,
+    /// Where the replica that leads leaves snapshots of the controller for those who want one.
+    pub sight: Arc<SnapshotBoard>,
 }
 
 /// The scan loop of a group: the client that submits its scans, with its link, the images that it publishes, and the
@@ -112,12 +115,13 @@ where
             journal,
             status,
             begun,
+            sight,
         } = parts;
         let Some(link) = links.pop() else {
             return Err(Failed::Device);
         };
         let pace = Pace::new(begun, settings.period);
-        let (group, threads) = Group::start(host, image, settings, links, stores)?;
+        let (group, threads) = Group::start(host, image, settings, links, stores, &sight)?;
         let drive = Drive {
             host,
             driver: ScanDriver::new(&settings.config, 0),

@@ -11,13 +11,13 @@ use crate::watch::Watch;
 use il_loader::Image;
 use plc_host::{Failed, Host, ServiceRuntime};
 use plc_settings::Settings;
+use plc_sight::{SightGate, SnapshotBoard};
 use plc_status::{Journal, Notice, StatusWriter};
-use std::alloc::Global;
-use std::sync::Arc;
+use std::sync::{Arc, Wait};
 use std::thread;
 use std::time::{Clock, Duration};
 use vr_model::Config;
-use vr_ports::{OpenGate, Relink};
+use vr_ports::Relink;
 use vr_shown::Shown;
 use vr_threads::{
     Cluster, ClusterConfig, ClusterError, ClusterThreads, MachineTimer, Saves, Seat, Starts,
@@ -48,43 +48,48 @@ pub(crate) struct Group<R: Clock + Copy + Drop, L: Relink + Drop> {
     saves: Vec<Arc<Saves>>,
 }
 
-/// The parts of a replica with this link and this store.
-fn seat<R: Clock + Copy + Drop, L, S>(
-    rt: R,
+/// What a replica works with.
+type GroupSeat<R, L, S> = Seat<L, S, MachineTimer<R>, SightGate<R>>;
+
+/// The parts of a replica with this link and this store. While it leads it leaves what is wanted on this board.
+fn seat<R: Wait + Clock + Copy + Drop, L, S>(
+    host: Host<R>,
     config: Config,
     link: L,
     store: S,
-) -> Seat<L, S, MachineTimer<R>, OpenGate> {
+    sight: Arc<SnapshotBoard>,
+) -> GroupSeat<R, L, S> {
     Seat {
         link,
         store,
         timer: MachineTimer::new(
-            rt,
+            host.rt,
             config,
             Duration::from_millis(TIMEOUT),
             Duration::from_millis(RESEND),
         ),
-        gate: OpenGate,
+        gate: SightGate::new(host, sight),
     }
 }
 
 /// A seat for each of these stores, of the replica with its number and the link at its place.
-fn seats<R: Clock + Copy + Drop, L: Drop, S: Drop>(
-    rt: R,
-    alloc: Global,
+fn seats<R: Wait + Clock + Copy + Drop, L: Drop, S: Drop>(
+    host: Host<R>,
     config: Config,
     links: Vec<L>,
     stores: Vec<S>,
-) -> Result<Vec<Seat<L, S, MachineTimer<R>, OpenGate>>, Failed>
+    sight: &Arc<SnapshotBoard>,
+) -> Result<Vec<GroupSeat<R, L, S>>, Failed>
     ensures seats { IfOk result (λ v. vec_len v ≡ vec_len stores) }
 {
     let mut links = links.into_iter();
-    let mut seats = Vec::new(alloc);
+    let mut seats = Vec::new(host.alloc);
     for store in stores {
         let Some(link) = links.next() else {
             return Err(Failed::Device);
         };
-        seats.push(seat(rt, config, link, store))?;
+        let sight = Arc::try_clone(sight)?;
+        seats.push(seat(host, config, link, store, sight))?;
     }
     Ok(seats)
 }
@@ -95,13 +100,15 @@ where
     L: Relink + Send + Drop + 'static,
 {
     /// Has the replicas of an image's program started, all or none, each with the link and the store at its place.
-    /// Beside it their threads, to be joined. Where that fails no thread goes on.
+    /// Beside it their threads, to be joined. The one that leads leaves what is wanted on the board. Where that fails no
+    /// thread goes on.
     pub(crate) fn start<S: Starts + Send + Drop + 'static>(
         host: Host<R>,
         image: &Image,
         settings: &Settings,
         links: Vec<L>,
         stores: Vec<S>,
+        sight: &Arc<SnapshotBoard>,
     ) -> Result<(Group<R, L>, ClusterThreads), Failed>
         requires { vec_len stores ≡ group_size settings.now.config.f }
         ensures turns { IfOk result (λ r. r.0.cluster.config.turns ≡ 2 ^ 64 - 1) }
@@ -113,7 +120,7 @@ where
         let patience = Duration::from_secs(u64::from(settings.lost_after));
         let watch = Watch::new(alloc, config, patience)?;
         let (stores, saves) = patient_stores(rt, alloc, stores)?;
-        let seats = seats(rt, alloc, config, links, stores)?;
+        let seats = seats(host, config, links, stores, sight)?;
         let common = ClusterConfig {
             group: config,
             budget: settings.budget,

@@ -203,12 +203,16 @@ build_metrics version =
     family_text (codes "plc_build_info") (codes "gauge") (codes "The version of the program.")
     ++ (codes "plc_build_info{version=\"" ++ (version ++ codes "\"} 1\n"))
 
+abbrev pub force_metrics : ℕ → List ℕ
+force_metrics forces = gauge_text (codes "plc_forces") (codes "Inputs and outputs that are forced.") forces
+
 -- all figures, by the version of the program and what shows; one that isn't known is left out
 abbrev pub metrics_text : List ℕ → Reading → List ℕ
 metrics_text version reading =
     build_metrics version
     ++ (scan_metrics reading.scans
+    ++ (force_metrics reading.forces
     ++ (group_metrics reading.replicas.items
     ++ (machine_metrics reading.machine
     ++ (client_metrics reading.clients
-    ++ process_metrics reading.process))))
+    ++ process_metrics reading.process)))))

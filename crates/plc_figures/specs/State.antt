@@ -155,13 +155,15 @@ told_json it = comma it.0
 abbrev pub notices_json : List Told → List ℕ
 notices_json notices = flat_map told_json (enumerate_from 0 notices)
 
--- the inputs, the outputs and the notices
+-- how many inputs and outputs are forced, the inputs, the outputs and the notices
 abbrev pub lists_text : Reading → List ℕ
-lists_text reading = codes ",\"inputs\":["
+lists_text reading = codes ",\"forces\":"
+    ++ (decimal reading.forces
+    ++ (codes ",\"inputs\":["
     ++ (points_json reading.inputs.items
     ++ (codes "],\"outputs\":["
     ++ (points_json reading.outputs.items
-    ++ (codes "],\"notices\":[" ++ (notices_json reading.notices.items ++ codes "]}\n")))))
+    ++ (codes "],\"notices\":[" ++ (notices_json reading.notices.items ++ codes "]}\n")))))))
 
 -- what shows, by the version of the program
 abbrev pub state_text : List ℕ → Reading → List ℕ

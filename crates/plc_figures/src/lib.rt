@@ -29,5 +29,5 @@ pub use reading::{
     BOUNDS, BUCKETS, Clients, EXCEPTIONS, FUNCTIONS, Halt, Machine, PLACES, Point, Process,
     Reading, Replica, Scans, Told,
 };
-pub use state::{put_notices, put_state};
+pub use state::{put_notices, put_state, put_value_json};
 pub use text::{put, put_number, put_seconds, put_signed, put_small_number, put_value};

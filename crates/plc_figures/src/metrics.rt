@@ -1,6 +1,7 @@
 //! Figures for Prometheus, in its text format (version 0.0.4 of the exposition formats).
 
 ghost use Rattle.std.specs.Prelude.{◌≡◌, ◌<◌, OnOk};
+ghost use Rattle.plc_figures.specs.Metrics.{force_metrics};
 ghost use Rattle.plc_figures.specs.Metrics.{counter_text, family_text, gauge_text};
 ghost use Rattle.plc_figures.specs.Metrics.{replica_sample, sample, seconds_sample};
 ghost use Rattle.plc_figures.specs.Metrics.{age_metrics, held_number, known_age};
@@ -566,12 +567,25 @@ pub fn put_build(out: &mut Vec<u8>, version: &[u8]) -> Result<(), AllocError>
     Ok(())
 }
 
+/// How many inputs and outputs are forced.
+fn put_forces(out: &mut Vec<u8>, forces: u64) -> Result<(), AllocError>
+    ensures { OnOk result (IsAdded out.old.items (force_metrics forces) out.new.items) }
+{
+    put_gauge(
+        out,
+        b"plc_forces",
+        b"Inputs and outputs that are forced.",
+        forces,
+    )
+}
+
 /// Adds all figures of what shows, by the version of the program.
 pub fn put_metrics(out: &mut Vec<u8>, version: &[u8], reading: &Reading) -> Result<(), AllocError>
     ensures { OnOk result (IsAdded out.old.items (metrics_text version.now reading.now) out.new.items) }
 {
     put_build(out, version)?;
     put_scans(out, &reading.scans)?;
+    put_forces(out, reading.forces)?;
     put_group(out, reading.replicas.as_slice())?;
     put_machine(out, reading.machine)?;
     put_clients(out, &reading.clients)?;

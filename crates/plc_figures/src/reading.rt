@@ -143,6 +143,8 @@ pub struct Reading {
     pub clients: Clients,
     /// Where the system tells it.
     pub process: Option<Process>,
+    /// How many inputs and outputs are forced.
+    pub forces: u64,
     pub inputs: Vec<Point>,
     pub outputs: Vec<Point>,
     /// The last ones, the oldest first.

@@ -221,8 +221,8 @@ fn put_process(out: &mut Vec<u8>, process: Option<Process>) -> Result<(), AllocE
     }
 }
 
-/// A value: 0 and 1 for a bit, a whole number, or the text of a REAL or of a bit string.
-fn put_value_json(out: &mut Vec<u8>, value: Value) -> Result<(), AllocError>
+/// Adds a value: 0 and 1 for a bit, a whole number, or the text of a REAL or of a bit string.
+pub fn put_value_json(out: &mut Vec<u8>, value: Value) -> Result<(), AllocError>
     ensures { OnOk result (IsAdded out.old.items (value_json value) out.new.items) }
 {
     match value {
@@ -284,10 +284,12 @@ pub fn put_notices(out: &mut Vec<u8>, notices: &[Told]) -> Result<(), AllocError
     Ok(())
 }
 
-/// The inputs, the outputs and the notices, and the end.
+/// How many are forced, the inputs, the outputs and the notices, and the end.
 fn put_lists(out: &mut Vec<u8>, reading: &Reading) -> Result<(), AllocError>
     ensures { OnOk result (IsAdded out.old.items (lists_text reading.now) out.new.items) }
 {
+    put(out, b",\"forces\":")?;
+    put_number(out, reading.forces)?;
     put(out, b",\"inputs\":[")?;
     put_points(out, reading.inputs.as_slice())?;
     put(out, b"],\"outputs\":[")?;

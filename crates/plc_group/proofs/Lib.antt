@@ -7,3 +7,4 @@ pub mod Loopbacks
 pub mod Consoles
 pub mod Copies
 pub mod Reached
+pub mod Networks

@@ -1,5 +1,5 @@
 -- How many machines there are.
-use Rattle.std.proofs.Common.{◌≡◌, ℕ, Bool, true, false, List, [], ◌∷◌, map, Option, Some, None, option_map, option_and_then, length, suc, refl, sym, ap, ◌∙◌, inl, inr, ◌⊎◌, arith, cond}
+use Rattle.std.proofs.Common.{◌≡◌, ℕ, true, List, [], ◌∷◌, map, Option, Some, None, option_map, option_and_then, length, suc, refl, sym, ap, ◌∙◌, inl, inr, arith, cond}
 use Rattle.std.proofs.lemmas.List.{length-map}
 use Rattle.std.proofs.lemmas.Option.{none-some, same_Some}
 use Rattle.std.proofs.lemmas.Bool.{cases_Bool}
@@ -7,7 +7,7 @@ use Rattle.std.proofs.lemmas.Bool.Decides.{nat_tests}
 use Rattle.toml.specs.Data.{Data, Items, Members, string, integer, float, boolean, datetime, array, table, as_array, as_table}
 use Rattle.toml.specs.View.{view, items_of, items_view}
 use Rattle.toml.specs.declared.value.Value.{Value}
-use Rattle.plc_group.specs.Values.{items_in, is_size, IsSize, sized, machines_of, all_of}
+use Rattle.plc_group.specs.Values.{items_in, is_size, IsSize, sized, machines_of, networks_from, networks_of, all_of}
 
 pub items_again : (ds : List Data) → items_in (items_of ds) ≡ ds
 items_again [] = refl
@@ -16,6 +16,10 @@ items_again (d ∷ ds) = ap (λ more. d ∷ more) (items_again ds)
 -- the machines of an array of values
 pub array_machines : (d : Data) (vs : List Value) → as_array d ≡ Some (items_view vs) → machines_of d ≡ cond (is_size (length vs)) (Some (map view vs)) None
 array_machines d vs h = rw (h, items_again (map view vs), length-map vs view) refl
+
+-- the networks of an array of values
+pub array_networks : (d : Data) (vs : List Value) → as_array d ≡ Some (items_view vs) → networks_of d ≡ networks_from [] (map view vs)
+array_networks d vs h = rw (h, items_again (map view vs)) refl
 
 pub size_is : (n : ℕ) → is_size n ≡ true → IsSize n
 size_is n h = grind (arith, nat_tests)

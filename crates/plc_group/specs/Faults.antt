@@ -6,7 +6,7 @@ use Rattle.std.specs.Prelude.{Result, Ok, Err, unwrap_or, string_bytes, IsUtf8, 
 use Rattle.std.specs.List.{flat_map, enumerate_from, list_any}
 use Rattle.std.specs.declared.net.socket_addr.SocketAddr.{SocketAddr}
 use Rattle.std.specs.declared.net.socket_addr.SocketAddr.TheVariants.{V4, V6}
-use Rattle.toml.specs.Data.{Data, string, integer, float, boolean, datetime, array, table}
+use Rattle.toml.specs.Data.{Data, table}
 use Rattle.toml.specs.Data.{Members, no_members, member, get_member, as_bool}
 use Rattle.toml.specs.Parse.{parse_document}
 use Rattle.plc_group.specs.declared.fault.GroupFault.{GroupFault}
@@ -22,6 +22,7 @@ use Rattle.plc_group.specs.declared.key.TheConstants.{GROUP_KEYS, MACHINE_KEYS, 
 use Rattle.plc_group.specs.declared.key.TheConstants.{DISTANCES, PATIENCES, RESENDS, FRESHNESSES, IDLES}
 use Rattle.plc_group.specs.Values.{word_of, is_among, number_in, number_or, name_of, cold_start_of, address_of}
 use Rattle.plc_group.specs.Values.{machines_of, machine_of, all_of, console_key_of, path_of, identity_of, value_at}
+use Rattle.plc_group.specs.Values.{networks_of}
 use Rattle.plc_group.specs.Values.{is_loopback, machines_said, usual_resend}
 
 -- a fault, with a machine's place in the file, from 0, where it's one of a machine
@@ -108,7 +109,8 @@ status_faults i members = wanted_faults address_of (Some i) keys.Status members
 abbrev pub addresses_faults : ℕ → Members → List Fault
 addresses_faults i members = replica_faults i members
     ++ (needed_faults address_of (Some i) keys.Modbus members
-    ++ (wanted_faults address_of (Some i) keys.Console members ++ status_faults i members))
+    ++ (wanted_faults address_of (Some i) keys.ModbusRead members
+    ++ (wanted_faults address_of (Some i) keys.Console members ++ status_faults i members)))
 
 -- those of the machine at place i
 abbrev pub machine_faults : ℕ → Data → List Fault
@@ -129,7 +131,8 @@ wanted_place i key (Some address) = place_at i key address ∷ []
 
 abbrev pub places_of : ℕ → Machine → List Place
 places_of i machine = place_at i keys.Replica machine.replica ∷ (place_at i keys.Modbus machine.modbus
-    ∷ (wanted_place i keys.Console machine.console ++ wanted_place i keys.Status machine.status))
+    ∷ (wanted_place i keys.ModbusRead machine.modbus_read
+    ++ (wanted_place i keys.Console machine.console ++ wanted_place i keys.Status machine.status)))
 
 abbrev pub places_in : List Machine → List Place
 places_in machines = flat_map (λ p. places_of p.0 p.1) (enumerate_from 0 machines)
@@ -171,10 +174,15 @@ machines_at (Some d) = machines_list (machines_of d)
 abbrev pub machines_faults : Members → List Fault
 machines_faults members = machines_at (get_member (word_of keys.Machine) members)
 
--- the file of the key, and the leave to do without one
-abbrev pub key_faults : Members → List Fault
-key_faults members = wanted_faults path_of None keys.KeyFile members
-    ++ wanted_faults as_bool None keys.Insecure members
+-- the lists of Modbus clients
+abbrev pub clients_faults : Members → List Fault
+clients_faults members = wanted_faults networks_of None keys.ModbusAllow members
+    ++ wanted_faults networks_of None keys.ModbusReadOnly members
+
+-- the file of the key, the leave to do without one, and who may be a client
+abbrev pub access_faults : Members → List Fault
+access_faults members = wanted_faults path_of None keys.KeyFile members
+    ++ (wanted_faults as_bool None keys.Insecure members ++ clients_faults members)
 
 -- what is wrong at the keys of the group, its machines apart
 abbrev pub settings_faults : Members → List Fault
@@ -185,7 +193,7 @@ settings_faults members = needed_faults name_of None keys.Name members
     ++ (times_faults (number_or 100 PERIODS keys.Period members) members
     ++ (wanted_faults cold_start_of None keys.ColdStart members
     ++ (wanted_faults console_key_of None keys.ConsoleKey members
-    ++ (wanted_faults path_of None keys.ConsoleSockets members ++ key_faults members)))))))
+    ++ (wanted_faults path_of None keys.ConsoleSockets members ++ access_faults members)))))))
 
 abbrev pub has_console : Machine → Bool
 has_console machine = is_some machine.console

@@ -1,11 +1,8 @@
 -- The lines that tell the faults of a group file, and the addresses that others than a machine itself reach.
 use Rattle.std.specs.Prelude.{ℕ, List, ◌++◌, codes, Option, Some, None, string_bytes, ◌+◌, [], fold, nat_eq}
-use Rattle.std.specs.Prelude.{if◌then◌else◌, count_by, Bool, true, false, not, ◌∷◌, take, bytes_eq}
-use Rattle.std.specs.Fmt.{decimal}
+use Rattle.std.specs.Prelude.{if◌then◌else◌, count_by, Bool, true, false, not}
 use Rattle.std.specs.List.{flat_map}
 use Rattle.std.specs.Net.Text.{socket_text}
-use Rattle.std.specs.declared.net.socket_addr.SocketAddr.{SocketAddr}
-use Rattle.std.specs.declared.net.socket_addr.SocketAddr.TheVariants.{V4, V6}
 use Rattle.il_text.specs.Telling.{numbered}
 use Rattle.plc_group.specs.declared.fault.GroupFault.{GroupFault}
 use Rattle.plc_group.specs.declared.fault.Why.{Why}
@@ -36,9 +33,12 @@ missing_text key = codes " missing\n"
 abbrev pub refused_text : Key → List ℕ
 refused_text keys.Replica = codes " refused: an address and a port, as 127.0.0.1:7600\n"
 refused_text keys.Modbus = codes " refused: an address and a port, as 127.0.0.1:7600\n"
+refused_text keys.ModbusRead = codes " refused: an address and a port, as 127.0.0.1:7600\n"
 refused_text keys.Console = codes " refused: an address and a port, as 127.0.0.1:7600\n"
 refused_text keys.Status = codes " refused: an address and a port, as 127.0.0.1:7600\n"
 refused_text keys.Identity = codes " refused: 32 hexadecimal digits\n"
+refused_text keys.ModbusAllow = codes " refused: at most 32 addresses or networks, as \"10.0.0.0/24\"\n"
+refused_text keys.ModbusReadOnly = codes " refused: at most 32 addresses or networks, as \"10.0.0.0/24\"\n"
 refused_text key = codes " refused\n"
 
 -- behind a key
@@ -83,19 +83,23 @@ column_behind text = fold (λ column byte. if nat_eq byte 10 then 1 else column 
 
 -- ---- the addresses that others reach
 
--- what anybody writes there counts: but for a status, and for a replica that asks for a key
-abbrev pub is_written : Bool → Key → Bool
-is_written has_key keys.Status = false
-is_written has_key keys.Replica = not has_key
-is_written has_key key = true
+-- what anybody writes there counts: but for a status, a port where clients only read, a replica that asks for a key,
+-- and a Modbus port with a list of who may come
+abbrev pub is_written : Bool → Bool → Key → Bool
+is_written has_key has_list keys.Status = false
+is_written has_key has_list keys.ModbusRead = false
+is_written has_key has_list keys.Replica = not has_key
+is_written has_key has_list keys.Modbus = not has_list
+is_written has_key has_list key = true
 
-abbrev pub is_exposed : Bool → Place → Bool
-is_exposed has_key place = if is_written has_key place.key then not (is_loopback place.address) else false
+abbrev pub is_exposed : Bool → Bool → Place → Bool
+is_exposed has_key has_list place =
+    if is_written has_key has_list place.key then not (is_loopback place.address) else false
 
-abbrev pub exposed_line : Bool → Place → List ℕ
-exposed_line has_key place = if is_exposed has_key place
+abbrev pub exposed_line : Bool → Bool → Place → List ℕ
+exposed_line has_key has_list place = if is_exposed has_key has_list place
     then socket_text place.address ++ codes ": anybody on that network can write here\n" else []
 
--- of the machines of a group that has a key, or none
-abbrev pub exposed_lines : Bool → List Machine → List ℕ
-exposed_lines has_key machines = flat_map (exposed_line has_key) (places_in machines)
+-- of the machines of a group that has a key, or none, and a list of who may be a Modbus client, or none
+abbrev pub exposed_lines : Bool → Bool → List Machine → List ℕ
+exposed_lines has_key has_list machines = flat_map (exposed_line has_key has_list) (places_in machines)

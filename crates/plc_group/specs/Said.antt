@@ -2,6 +2,7 @@
 use Rattle.std.specs.Prelude.{◌≡◌, ℕ, ◌+◌, Bool, false, Option, Some, option_map, unwrap_or, string_bytes, String}
 use Rattle.std.specs.Global.{Global}
 use Rattle.toml.specs.Data.{Members, as_bool}
+use Rattle.net_addresses.specs.declared.clients.Clients.{Clients}
 use Rattle.plc_group.specs.declared.group.ColdStart.TheVariants.{Auto}
 use Rattle.plc_group.specs.declared.group.Group.{Group}
 use Rattle.plc_group.specs.declared.group.Times.{Times}
@@ -10,7 +11,7 @@ use Rattle.plc_group.specs.declared.key.TheConstants.{PERIODS, BUDGETS, DISTANCE
 use Rattle.plc_group.specs.declared.key.TheConstants.{FRESHNESSES, IDLES}
 use Rattle.plc_group.specs.declared.reading.Settings.{Settings}
 use Rattle.plc_group.specs.Values.{value_at, number_or, name_of, identity_of, cold_start_of, console_key_of}
-use Rattle.plc_group.specs.Values.{path_of, machines_said, usual_resend}
+use Rattle.plc_group.specs.Values.{path_of, machines_said, networks_of, usual_resend}
 
 -- outputs are shown for a period and 40 ms, where nothing is said
 abbrev pub SaysTimes : Members → ℕ → Times → Type 0
@@ -29,6 +30,11 @@ abbrev pub SaysKey : Members → Option (String Global) → Bool → Type 0
 SaysKey table file insecure = (value_at path_of keys.KeyFile table ≡ option_map string_bytes file)
     × (insecure ≡ unwrap_or (value_at as_bool keys.Insecure table) false)
 
+-- who may be a Modbus client, and who of them may only read
+abbrev pub SaysClients : Members → Clients → Type 0
+SaysClients table clients = (value_at networks_of keys.ModbusAllow table ≡ option_map (λ n. n.networks.items) clients.allowed)
+    × (value_at networks_of keys.ModbusReadOnly table ≡ option_map (λ n. n.networks.items) clients.readers)
+
 -- what the table says of the whole group
 pub record SaysSettings (table : Members) (settings : Settings) : Type 0 where
   pub name : value_at name_of keys.Name table ≡ Some (string_bytes settings.name)
@@ -39,6 +45,7 @@ pub record SaysSettings (table : Members) (settings : Settings) : Type 0 where
   pub cold_start : settings.cold_start ≡ unwrap_or (value_at cold_start_of keys.ColdStart table) Auto
   pub consoles : SaysConsoles table settings.console_key settings.console_sockets
   pub key : SaysKey table settings.key_file settings.is_insecure
+  pub clients : SaysClients table settings.clients
 
 -- the table says this group
 pub record Says (table : Members) (group : Group) : Type 0 where
@@ -51,4 +58,5 @@ pub record Says (table : Members) (group : Group) : Type 0 where
   pub cold_start : group.cold_start ≡ unwrap_or (value_at cold_start_of keys.ColdStart table) Auto
   pub consoles : SaysConsoles table group.console_key group.console_sockets
   pub key : SaysKey table group.key_file group.is_insecure
+  pub clients : SaysClients table group.clients
   pub machines : machines_said table ≡ Some group.machines.items

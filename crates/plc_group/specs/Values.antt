@@ -1,8 +1,9 @@
 -- The keys of a group file, and what a value is read as: nothing, where the key doesn't take it.
-use Rattle.std.specs.Prelude.{ℕ, Bool, List, bytes_eq, codes, ◌≡◌, ◌⊎◌, ◌==◌, ◌&&◌, ◌||◌, ℤ, pos, negsuc, [], ◌∷◌}
+use Rattle.std.specs.Prelude.{ℕ, Bool, true, false, List, bytes_eq, codes, ◌≡◌, ◌⊎◌, ◌==◌, ◌&&◌, ◌||◌, ℤ, pos, negsuc, [], ◌∷◌}
 use Rattle.std.specs.Prelude.{length, Option, Some, None, option_and_then, option_map, nat_eq, nat_le, if◌then◌else◌}
 use Rattle.std.specs.Prelude.{Result, Ok, Err, unwrap_or, nat_lt, ◌/◌, take}
 use Rattle.std.specs.List.{list_any, list_all, starts_with}
+use Rattle.std.specs.Result.{result_ok}
 use Rattle.hex.specs.Hex.{decode_sized}
 use Rattle.hex.specs.declared.error.FromHexError.{FromHexError}
 use Rattle.std.specs.Net.Reader.{read_socket_v4, read_socket_v6, whole_value}
@@ -14,6 +15,8 @@ use Rattle.std.specs.declared.net.socket_addr.SocketAddr.TheVariants.{V4, V6}
 use Rattle.std.specs.declared.net.socket_addr.SocketAddrV4.{SocketAddrV4}
 use Rattle.std.specs.declared.net.socket_addr.SocketAddrV6.{SocketAddrV6}
 use Rattle.toml.specs.Data.{Data, Items, no_items, item, Members, get_member, as_integer, as_str, as_array, as_table}
+use Rattle.net_addresses.specs.declared.network.Network.{Network}
+use Rattle.net_addresses.specs.Texts.{with_text}
 use Rattle.plc_group.specs.declared.key.Key.{Key}
 use Rattle.plc_group.specs.declared.group.ColdStart.{ColdStart}
 use Rattle.plc_group.specs.declared.group.ColdStart.TheVariants.{Auto, ByHand}
@@ -39,9 +42,12 @@ word_of keys.ConsoleKey = codes "console_key"
 word_of keys.ConsoleSockets = codes "console_sockets"
 word_of keys.KeyFile = codes "key"
 word_of keys.Insecure = codes "insecure"
+word_of keys.ModbusAllow = codes "modbus_allow"
+word_of keys.ModbusReadOnly = codes "modbus_read_only"
 word_of keys.Machine = codes "machine"
 word_of keys.Replica = codes "replica"
 word_of keys.Modbus = codes "modbus"
+word_of keys.ModbusRead = codes "modbus_read"
 word_of keys.Console = codes "console"
 word_of keys.Status = codes "status"
 word_of keys.Identity = codes "identity"
@@ -179,11 +185,35 @@ address_in text = option_and_then with_port (written_address text)
 abbrev pub address_of : Data → Option SocketAddr
 address_of d = option_and_then address_in (as_str d)
 
--- ---- machines
+-- ---- networks
 
 abbrev pub items_in : Items → List Data
 items_in no_items = []
 items_in (item d more) = d ∷ items_in more
+
+-- these networks and that of a text, of at most 32
+abbrev pub with_network : List Network → List ℕ → Option (List Network)
+with_network networks text = result_ok (with_text networks text)
+
+-- and that of a value, which has to be a text
+abbrev pub with_value : List Network → Data → Option (List Network)
+with_value networks d = option_and_then (with_network networks) (as_str d)
+
+-- what a list is behind that, if that could be
+abbrev pub added : Bool → List Network → Option (List Network)
+added true networks = Some networks
+added false networks = None
+
+-- these networks, and behind them those of values, each of which has to have one
+abbrev pub networks_from : List Network → List Data → Option (List Network)
+networks_from networks [] = Some networks
+networks_from networks (d ∷ ds) = option_and_then (λ more. networks_from more ds) (with_value networks d)
+
+-- the networks of an array of texts
+abbrev pub networks_of : Data → Option (List Network)
+networks_of d = option_and_then (λ items. networks_from [] (items_in items)) (as_array d)
+
+-- ---- machines
 
 abbrev pub is_size : ℕ → Bool
 is_size n = (nat_eq n 3 || nat_eq n 5) || nat_eq n 7
@@ -205,6 +235,7 @@ machine_in table =
     Some (record {
       replica = replica;
       modbus = modbus;
+      modbus_read = value_at address_of keys.ModbusRead table;
       console = value_at address_of keys.Console table;
       status = value_at address_of keys.Status table;
     })

@@ -7,14 +7,16 @@ ghost use Rattle.toml.specs.Data.{as_bool, get_member};
 ghost use Rattle.toml.specs.View.{view, table_view};
 ghost use Rattle.plc_group.specs.Faults.{Judges, is_unknown, keys_in, needed_faults, unknown_faults, wanted_faults};
 ghost use Rattle.plc_group.specs.Values.{is_among, word_of, address_of, cold_start_of, console_key_of, path_of};
-ghost use Rattle.plc_group.specs.Values.{identity_of, name_of, number_in, number_or, value_at};
+ghost use Rattle.plc_group.specs.Values.{identity_of, name_of, networks_of, number_in, number_or, value_at};
 
 use crate::fault::{GroupFault, Why};
 use crate::group::ColdStart;
 use crate::key::{Key, Range};
 use crate::values::{
-    address_of, cold_start_of, console_key_of, identity_of, name_of, number_in, path_of,
+    address_of, cold_start_of, console_key_of, identity_of, name_of, networks_of, number_in,
+    path_of,
 };
+use net_addresses::Networks;
 use std::alloc::Global;
 use std::net::SocketAddr;
 use toml::{Table, Value};
@@ -170,6 +172,24 @@ pub(crate) fn insecure(table: &Table) -> Result<bool, GroupFault>
             None => Err(wrong(None, Key::Insecure, Why::Refused)),
         },
         None => Ok(false),
+    }
+}
+
+/// A list of networks, if there is one.
+pub(crate) fn networks(
+    alloc: Global,
+    table: &Table,
+    key: Key,
+) -> Result<Option<Networks>, GroupFault>
+    ensures { Judges (wanted_faults networks_of None key (table_view table.now))
+        (λ o. value_at networks_of key (table_view table.now) ≡ option_map (λ n. n.networks.items) o) result }
+{
+    let Some(value) = value_at(table, key) else {
+        return Ok(None);
+    };
+    match networks_of(alloc, value)? {
+        Some(networks) => Ok(Some(networks)),
+        None => Err(wrong(None, key, Why::Refused)),
     }
 }
 

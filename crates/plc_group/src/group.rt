@@ -4,6 +4,7 @@ ghost use Rattle.std.specs.Prelude.{◌≡◌, vec_len};
 ghost use Rattle.vr_model.specs.Groups.{group_size};
 
 use il_model::Budget;
+use net_addresses::Clients;
 use std::net::SocketAddr;
 use vr_model::Config;
 
@@ -14,6 +15,8 @@ pub struct Machine {
     pub replica: SocketAddr,
     /// By Modbus clients.
     pub modbus: SocketAddr,
+    /// By Modbus clients who only read, if there's a port for them.
+    pub modbus_read: Option<SocketAddr>,
     /// By an operator's console, if it has one.
     pub console: Option<SocketAddr>,
     /// By who asks for its status, if it's shown.
@@ -65,6 +68,8 @@ pub struct Group {
     pub key_file: Option<String>,
     /// Whether its machines may reach each other over a network without a key.
     pub is_insecure: bool,
+    /// Who may be a Modbus client, and who of them may only read, by the addresses that they come from.
+    pub clients: Clients,
     pub machines: Vec<Machine>,
     ghost one_each: { vec_len machines ≡ group_size config.f },
 }

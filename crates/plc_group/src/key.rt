@@ -19,16 +19,19 @@ pub enum Key {
     ConsoleSockets,
     KeyFile,
     Insecure,
+    ModbusAllow,
+    ModbusReadOnly,
     Machine,
     Replica,
     Modbus,
+    ModbusRead,
     Console,
     Status,
     Identity,
 }
 
 /// The keys of the whole group.
-pub(crate) const GROUP_KEYS: [Key; 15] = [
+pub(crate) const GROUP_KEYS: [Key; 17] = [
     Key::Name,
     Key::Period,
     Key::Budget,
@@ -42,12 +45,20 @@ pub(crate) const GROUP_KEYS: [Key; 15] = [
     Key::ConsoleSockets,
     Key::KeyFile,
     Key::Insecure,
+    Key::ModbusAllow,
+    Key::ModbusReadOnly,
     Key::Machine,
     Key::Identity,
 ];
 
 /// The keys of a machine.
-pub(crate) const MACHINE_KEYS: [Key; 4] = [Key::Replica, Key::Modbus, Key::Console, Key::Status];
+pub(crate) const MACHINE_KEYS: [Key; 5] = [
+    Key::Replica,
+    Key::Modbus,
+    Key::ModbusRead,
+    Key::Console,
+    Key::Status,
+];
 
 impl Key {
     /// The word of the key in the file.
@@ -68,9 +79,12 @@ impl Key {
             Key::ConsoleSockets => "console_sockets",
             Key::KeyFile => "key",
             Key::Insecure => "insecure",
+            Key::ModbusAllow => "modbus_allow",
+            Key::ModbusReadOnly => "modbus_read_only",
             Key::Machine => "machine",
             Key::Replica => "replica",
             Key::Modbus => "modbus",
+            Key::ModbusRead => "modbus_read",
             Key::Console => "console",
             Key::Status => "status",
             Key::Identity => "identity",

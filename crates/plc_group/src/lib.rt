@@ -15,6 +15,8 @@
 //! `specs/Faults` (`faults_of`), or the bytes are no table of TOML 1.1 in UTF-8. An address is one that std's grammar
 //! has, with a port. Each fault has its line. What lacks nothing but an identity is told so (`lacks_identity`), since
 //! that's the last fault, and gets one (`with_identity`). Which keys machines have to share is a table (`Key::sharing`).
+//! Who may be a Modbus client, and who of them may only read, are arrays of networks (`net_addresses`), each with at
+//! most 32; a machine may have a second port, at which clients only read.
 //!
 //! In no clause: where the fault of bytes lies that are no TOML, which is the crate `toml`'s to say.
 #![tactic(auto)]

@@ -68,6 +68,7 @@ fn addresses(table: &Table, place: usize) -> Result<Machine, GroupFault>
     Ok(Machine {
         replica: replica(table, place)?,
         modbus: needed_address(table, Key::Modbus, place)?,
+        modbus_read: wanted_address(table, Key::ModbusRead, place)?,
         console: wanted_address(table, Key::Console, place)?,
         status: status(table, place)?,
     })
@@ -222,6 +223,7 @@ fn put_places(places: &mut Vec<Place>, machine: &Machine, number: usize) -> Resu
 {
     put_place(places, number, Key::Replica, Some(machine.replica))?;
     put_place(places, number, Key::Modbus, Some(machine.modbus))?;
+    put_place(places, number, Key::ModbusRead, machine.modbus_read)?;
     put_place(places, number, Key::Console, machine.console)?;
     put_place(places, number, Key::Status, machine.status)
 }

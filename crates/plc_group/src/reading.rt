@@ -7,14 +7,14 @@ ghost use Rattle.toml.specs.View.{table_view};
 ghost use Rattle.plc_group.specs.declared.fault.GroupFault.TheVariants.{Memory, Toml};
 ghost use Rattle.plc_group.specs.Lines.{column_behind, line_behind};
 ghost use Rattle.plc_group.specs.Faults.{IsFileFault, IsTable, Judges, faults_of, fresh_faults, resend_faults};
-ghost use Rattle.plc_group.specs.Faults.{settings_faults, times_faults};
-ghost use Rattle.plc_group.specs.Said.{Says, SaysSettings, SaysTimes};
+ghost use Rattle.plc_group.specs.Faults.{clients_faults, settings_faults, times_faults};
+ghost use Rattle.plc_group.specs.Said.{Says, SaysClients, SaysSettings, SaysTimes};
 ghost use Rattle.plc_group.specs.Values.{number_or, usual_resend};
 ghost use Rattle.plc_group.specs.declared.key.TheConstants.{FRESHNESSES, RESENDS};
 
 use crate::fault::{GroupFault, Why};
 use crate::fields::{
-    cold_start, console_key, console_sockets, identity, insecure, key_file, name, number,
+    cold_start, console_key, console_sockets, identity, insecure, key_file, name, networks, number,
     refuse_unknown, wrong,
 };
 use crate::group::{ColdStart, Group, Times};
@@ -23,6 +23,7 @@ use crate::key::{
 };
 use crate::machines::{machines, refuse_exposed, refuse_ports};
 use il_model::Budget;
+use net_addresses::Clients;
 use std::alloc::Global;
 use toml::Table;
 use vr_model::Config;
@@ -107,6 +108,7 @@ fn group_of(alloc: Global, table: &Table) -> Result<Group, GroupFault>
         console_sockets: settings.console_sockets,
         key_file: settings.key_file,
         is_insecure: settings.is_insecure,
+        clients: settings.clients,
         machines,
     })
 }
@@ -124,6 +126,7 @@ pub(crate) struct Settings {
     pub(crate) console_sockets: Option<String>,
     pub(crate) key_file: Option<String>,
     pub(crate) is_insecure: bool,
+    pub(crate) clients: Clients,
 }
 
 fn settings_of(alloc: Global, table: &Table) -> Result<Settings, GroupFault>
@@ -139,6 +142,7 @@ fn settings_of(alloc: Global, table: &Table) -> Result<Settings, GroupFault>
     let console_sockets = console_sockets(alloc, table)?;
     let key_file = key_file(alloc, table)?;
     let is_insecure = insecure(table)?;
+    let clients = clients(alloc, table)?;
     Ok(Settings {
         name,
         period,
@@ -150,6 +154,17 @@ fn settings_of(alloc: Global, table: &Table) -> Result<Settings, GroupFault>
         console_sockets,
         key_file,
         is_insecure,
+        clients,
+    })
+}
+
+/// Who may be a Modbus client, by a table.
+fn clients(alloc: Global, table: &Table) -> Result<Clients, GroupFault>
+    ensures { Judges (clients_faults (table_view table.now)) (SaysClients (table_view table.now)) result }
+{
+    Ok(Clients {
+        allowed: networks(alloc, table, Key::ModbusAllow)?,
+        readers: networks(alloc, table, Key::ModbusReadOnly)?,
     })
 }
 

@@ -113,10 +113,13 @@ fn refused_text(key: Key) -> &'static [u8]
     ensures { result.now ≡ refused_text key }
 {
     match key {
-        Key::Replica | Key::Modbus | Key::Console | Key::Status => {
+        Key::Replica | Key::Modbus | Key::ModbusRead | Key::Console | Key::Status => {
             b" refused: an address and a port, as 127.0.0.1:7600\n"
         }
         Key::Identity => b" refused: 32 hexadecimal digits\n",
+        Key::ModbusAllow | Key::ModbusReadOnly => {
+            b" refused: at most 32 addresses or networks, as \"10.0.0.0/24\"\n"
+        }
         _ => b" refused\n",
     }
 }

@@ -1,15 +1,18 @@
 //! What a value of the file is read as.
 
-ghost use Rattle.std.specs.Prelude.{◌≡◌, ◌↔◌, ℕ, List, Some, map, option_copied, option_map};
+ghost use Rattle.std.specs.Prelude.{◌≡◌, ◌↔◌, ℕ, IfOk, List, [], Some, map, option_copied, option_map};
 ghost use Rattle.std.specs.List.{list_all};
 ghost use Rattle.std.specs.Net.Grammar.{IsSocketText};
 ghost use Rattle.toml.specs.View.{view};
 ghost use Rattle.plc_group.specs.Values.{address_in, address_of, cold_start_of, console_key_of, path_of, identity_in};
 ghost use Rattle.plc_group.specs.Values.{identity_of, is_console_key, is_path, is_name, is_size, is_visible};
-ghost use Rattle.plc_group.specs.Values.{machines_of, name_of, number_in, written_address};
+ghost use Rattle.plc_group.specs.Values.{added, machines_of, name_of, networks_from, networks_of, number_in, with_value};
+ghost use Rattle.plc_group.specs.Values.{written_address};
 
 use crate::group::ColdStart;
 use crate::key::Range;
+use net_addresses::{Networks, NetworksFault};
+use std::alloc::{AllocError, Global};
 use std::net::SocketAddr;
 use toml::Value;
 
@@ -158,6 +161,44 @@ pub(crate) fn machines_of(value: &Value) -> Option<&[Value]>
         Some(values.as_slice())
     } else {
         None
+    }
+}
+
+/// The networks of an array of texts, of at most 32.
+pub(crate) fn networks_of(alloc: Global, value: &Value) -> Result<Option<Networks>, AllocError>
+    ensures { IfOk result (λ o. option_map (λ n. n.networks.items) o ≡ networks_of (view value.now)) }
+{
+    match value.as_array() {
+        Some(values) => each_network(alloc, values.as_slice()),
+        None => Ok(None),
+    }
+}
+
+/// The networks of these values, where each is a text of one.
+fn each_network(alloc: Global, values: &[Value]) -> Result<Option<Networks>, AllocError>
+    ensures { IfOk result (λ o. option_map (λ n. n.networks.items) o ≡ networks_from [] (map view values.now)) }
+{
+    let mut networks = Networks::none(alloc);
+    for value in values {
+        if !is_added(&mut networks, value)? {
+            return Ok(None);
+        }
+    }
+    Ok(Some(networks))
+}
+
+/// Adds the network of a value to a list: whether that could be.
+fn is_added(networks: &mut Networks, value: &Value) -> Result<bool, AllocError>
+    ensures { IfOk result (λ is_so. added is_so networks.new.networks.items
+        ≡ with_value networks.old.networks.items (view value.now)) }
+{
+    let Some(text) = value.as_str() else {
+        return Ok(false);
+    };
+    match networks.add(text.as_bytes()) {
+        Ok(()) => Ok(true),
+        Err(NetworksFault::Memory) => Err(AllocError),
+        Err(_) => Ok(false),
     }
 }
 

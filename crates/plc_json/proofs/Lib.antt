@@ -5,3 +5,4 @@ mod Whole
 mod Nesting
 mod Texts
 mod Changes
+mod NameLists

@@ -1,6 +1,6 @@
 -- What a text asks for: one command, or a command or a question of a console; and why it asks for none.
 use Rattle.std.specs.Prelude.{◌≡◌, ◌≤◌, ℕ, List, Option, Some, option_and_then, codes, IsUtf8, Vec, None, option_map}
-use Rattle.std.specs.Prelude.{bytes_eq, if◌then◌else◌}
+use Rattle.std.specs.Prelude.{bytes_eq, if◌then◌else◌, map, String, string_bytes}
 use Rattle.std.specs.Global.{Global}
 use Rattle.std.specs.List.{AllByRecursion}
 use Rattle.serde_json.specs.Errors.{IsMemory}
@@ -9,7 +9,7 @@ use Rattle.hex.specs.declared.error.FromHexError.{FromHexError}
 use Rattle.hex.specs.declared.error.FromHexError.TheVariants.{OutOfMemory}
 use Rattle.serde_json.specs.Data.{Data, depth, object, member, no_members, string}
 use Rattle.serde_json.specs.Read.{read as read_text, max_depth}
-use Rattle.serde_json.specs.Find.{as_str}
+use Rattle.serde_json.specs.Find.{as_array, as_object, as_str}
 use Rattle.il_model.specs.declared.command.Command.TheVariants.{Change}
 use Rattle.plc_json.specs.declared.command.JsonFault.{JsonFault}
 use Rattle.plc_json.specs.declared.command.JsonFault.TheVariants.{Shape, Memory}
@@ -17,9 +17,9 @@ use Rattle.plc_json.specs.declared.command.NamedCommand.{NamedCommand}
 use Rattle.plc_json.specs.declared.command.NamedCommand.TheVariants.{Plain}
 use Rattle.plc_json.specs.declared.question.Asked.{Asked}
 use Rattle.plc_json.specs.declared.question.Question.{Question}
-use Rattle.plc_json.specs.declared.question.Question.TheVariants.{Forces, Breaks, Program, Image, Status}
+use Rattle.plc_json.specs.declared.question.Question.TheVariants as questions
 use Rattle.plc_json.specs.declared.question.Asked.TheVariants as asked
-use Rattle.plc_json.specs.Commands.{Named, named, command_of, each_in, all_of}
+use Rattle.plc_json.specs.Commands.{Named, named, command_of, each_in, all_of, items_in, only_member}
 
 -- ---- why a text gives no commands
 
@@ -57,28 +57,66 @@ bytes_of v = v.items
 abbrev pub NestWithin : List Data → Type 0
 NestWithin ds = AllByRecursion (λ d. depth d ≤ max_depth) ds
 
--- ---- what a console is asked: a command, or a question, which is a word alone
+-- ---- what a console is asked: a command, or a question, which is a word alone or names to watch
+
+-- a question, its names as their bytes
+pub data Query : Type 0 where
+  Forces : Query
+  Breaks : Query
+  Program : Query
+  Image : Query
+  Status : Query
+  Values : Query
+  Watch : List (List ℕ) → Query
+
+abbrev pub spelled_names : Vec (String Global) Global → List (List ℕ)
+spelled_names names = map string_bytes names.items
+
+abbrev pub query : Question → Query
+query questions.Forces = Forces
+query questions.Breaks = Breaks
+query questions.Program = Program
+query questions.Image = Image
+query questions.Status = Status
+query questions.Values = Values
+query (questions.Watch names) = Watch (spelled_names names)
 
 -- what a console is asked, its names as their bytes
 pub data Asking : Type 0 where
   Do : Named → Asking
-  Tell : Question → Asking
+  Tell : Query → Asking
 
 abbrev pub asking : Asked → Asking
 asking (asked.Command command) = Do (named command)
-asking (asked.Question question) = Tell question
+asking (asked.Question question) = Tell (query question)
 
-abbrev pub question_of : List ℕ → Option Question
+abbrev pub question_of : List ℕ → Option Query
 question_of word = if bytes_eq word (codes "forces") then Some Forces else (
     if bytes_eq word (codes "breaks") then Some Breaks else (
     if bytes_eq word (codes "program") then Some Program else (
     if bytes_eq word (codes "image") then Some Image else (
-    if bytes_eq word (codes "status") then Some Status else None))))
+    if bytes_eq word (codes "status") then Some Status else (
+    if bytes_eq word (codes "values") then Some Values else None)))))
 
-abbrev pub question_in : Data → Option Question
-question_in d = option_and_then question_of (as_str d)
+-- the strings of a list
+abbrev pub names_in : Data → Option (List (List ℕ))
+names_in d = option_and_then (λ items. all_of as_str (items_in items)) (as_array d)
 
-abbrev pub or_command : Option Question → Data → Option Asking
+abbrev pub watch_with : List ℕ × Data → Option Query
+watch_with (key, d) = if bytes_eq key (codes "watch") then option_map Watch (names_in d) else None
+
+-- an object with one member, whose key is watch and whose value is a list of names
+abbrev pub watch_in : Data → Option Query
+watch_in d = option_and_then watch_with (option_and_then only_member (as_object d))
+
+abbrev pub question_by : Option (List ℕ) → Data → Option Query
+question_by (Some word) d = question_of word
+question_by None d = watch_in d
+
+abbrev pub question_in : Data → Option Query
+question_in d = question_by (as_str d) d
+
+abbrev pub or_command : Option Query → Data → Option Asking
 or_command (Some question) d = Some (Tell question)
 or_command None d = option_map Do (command_of d)
 

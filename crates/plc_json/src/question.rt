@@ -1,20 +1,22 @@
 //! What a console is asked: a command, or a question.
 
-ghost use Rattle.std.specs.Prelude.{◌≡◌, ◌≤◌, IfOk, IfErr, Some, None, map};
+ghost use Rattle.std.specs.Prelude.{◌≡◌, ◌≤◌, IfOk, IfErr, Some, None, map, option_map, string_bytes};
 ghost use Rattle.serde_json.specs.Data.{depth};
+ghost use Rattle.serde_json.specs.Find.{as_str};
 ghost use Rattle.serde_json.specs.Read.{max_depth};
 ghost use Rattle.serde_json.specs.View.{view};
 ghost use Rattle.plc_json.specs.Asking.{HasAsked, HasNoAskings, HasNothing, HasTexts, SayAskings, SaysAsking, asking};
 ghost use Rattle.plc_json.specs.Asking.{asking_of, question_in, question_of, NestWithin, bytes_of};
+ghost use Rattle.plc_json.specs.Asking.{names_in, query, spelled_names, watch_in, watch_with};
 ghost use Rattle.plc_json.specs.Commands.{all_of};
-ghost use Rattle.plc_json.specs.declared.command.JsonFault.TheVariants.{Shape};
+ghost use Rattle.plc_json.specs.declared.command.JsonFault.TheVariants.{Memory, Shape};
 
-use crate::command::{JsonFault, NamedCommand, command};
+use crate::command::{JsonFault, NamedCommand, command, only_member};
 use serde_json::Value as Json;
-use std::alloc::Global;
+use std::alloc::{AllocError, Global};
 
 /// What is asked of a served controller that changes nothing, and is no command.
-#[derive(Clone, Copy, Debug, PartialEq, Eq)]
+#[derive(Debug, Drop)]
 pub enum Question {
     /// Which values lie over which locations.
     Forces,
@@ -26,6 +28,10 @@ pub enum Question {
     Image,
     /// How many scans there were, and how its replicas are.
     Status,
+    /// What each variable and each field of an instance is, and what is forced.
+    Values,
+    /// What the locations, variables and fields of these names are.
+    Watch(Vec<String>),
 }
 
 /// What a console is asked.
@@ -45,25 +51,29 @@ pub fn read_asked(alloc: Global, text: &[u8]) -> Result<Asked, JsonFault>
     asked_by(alloc, &json)
 }
 
-/// A question is a word; all else is a command.
+/// A question is a word, or an object whose one key is `watch`; all else is a command.
 pub(crate) fn asked_by(alloc: Global, json: &Json) -> Result<Asked, JsonFault>
     ensures found { IfOk result (λ a. asking_of (view json.now) ≡ Some (asking a)) }
     ensures refused { IfErr result (λ e. e ≡ Shape → asking_of (view json.now) ≡ None) }
 {
-    match question_in(json) {
-        Some(question) => Ok(Asked::Question(question)),
-        None => Ok(Asked::Command(command(alloc, json)?)),
+    match question_in(alloc, json) {
+        Ok(Some(question)) => Ok(Asked::Question(question)),
+        Ok(None) => Ok(Asked::Command(command(alloc, json)?)),
+        Err(_) => Err(JsonFault::Memory),
     }
 }
 
-fn question_in(json: &Json) -> Option<Question>
-    ensures { result ≡ question_in (view json.now) }
+fn question_in(alloc: Global, json: &Json) -> Result<Option<Question>, AllocError>
+    ensures { IfOk result (λ o. option_map query o ≡ question_in (view json.now)) }
 {
-    question_of(json.as_str()?)
+    match json.as_str() {
+        Some(word) => Ok(question_of(word)),
+        None => watch_in(alloc, json),
+    }
 }
 
 fn question_of(word: &str) -> Option<Question>
-    ensures { result ≡ question_of word.now }
+    ensures { option_map query result ≡ question_of word.now }
 {
     match word {
         "forces" => Some(Question::Forces),
@@ -71,8 +81,57 @@ fn question_of(word: &str) -> Option<Question>
         "program" => Some(Question::Program),
         "image" => Some(Question::Image),
         "status" => Some(Question::Status),
+        "values" => Some(Question::Values),
         _ => None,
     }
+}
+
+/// What names are asked for by an object with one member, whose key is `watch`.
+fn watch_in(alloc: Global, json: &Json) -> Result<Option<Question>, AllocError>
+    ensures { IfOk result (λ o. option_map query o ≡ watch_in (view json.now)) }
+{
+    let Some(members) = json.as_object() else {
+        return Ok(None);
+    };
+    let Some((key, argument)) = only_member(members) else {
+        return Ok(None);
+    };
+    watch_with(alloc, key, argument)
+}
+
+fn watch_with(alloc: Global, key: &str, argument: &Json) -> Result<Option<Question>, AllocError>
+    ensures { IfOk result (λ o. option_map query o ≡ watch_with (key.now, view argument.now)) }
+{
+    if key != "watch" {
+        return Ok(None);
+    }
+    match names_in(alloc, argument)? {
+        Some(names) => Ok(Some(Question::Watch(names))),
+        None => Ok(None),
+    }
+}
+
+/// The names of a list of strings: none where it's no such list.
+fn names_in(alloc: Global, list: &Json) -> Result<Option<Vec<String>>, AllocError>
+    ensures { IfOk result (λ o. option_map spelled_names o ≡ names_in (view list.now)) }
+{
+    let Some(items) = list.as_array() else {
+        return Ok(None);
+    };
+    each_name(alloc, items.as_slice())
+}
+
+fn each_name(alloc: Global, items: &[Json]) -> Result<Option<Vec<String>>, AllocError>
+    ensures { IfOk result (λ o. option_map spelled_names o ≡ all_of as_str (map view items.now)) }
+{
+    let mut names = Vec::new(alloc);
+    for json in items {
+        match json.as_str() {
+            Some(name) => names.push(String::from_str(alloc, name)?)?,
+            None => return Ok(None),
+        }
+    }
+    Ok(Some(names))
 }
 
 /// What a text asks of a console by an array of commands and questions, each as a text that is that alone: JSON (RFC

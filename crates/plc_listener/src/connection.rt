@@ -3,6 +3,7 @@
 use crate::wire::Guest;
 use std::io;
 use std::io::{ErrorKind, Read, Write};
+use std::net::IpAddr;
 use std::sync::atomic::{AtomicBool, AtomicU64, Ordering};
 use std::time::{Clock, Duration, Instant};
 
@@ -38,6 +39,11 @@ impl<'a, R: Clock + Drop> Connection<'a, R> {
     /// Whether another connection has taken its place.
     pub fn has_given_way(&self) -> bool {
         self.guest.gives_way.load(Ordering::SeqCst)
+    }
+
+    /// The address that its client comes from: none at a socket of this machine, or once the client is gone.
+    pub fn peer(&self) -> Option<IpAddr> {
+        self.guest.wire.peer()
     }
 
     /// Who has it, for a thread that may have it give way.

@@ -10,15 +10,20 @@
 //! let sessions = open.close(); // none is served any more
 //! ```
 //!
+//! Where only some may come (`Listener::for_clients`), others are closed unanswered, before a place is looked for; a session
+//! knows by `Connection::peer` where its client is.
+//!
 //! A door is a port, or a socket at a path that its owner alone can reach (`Door::at_path`). One that may not be to be had
 //! yet (`Door::wanted`, `Door::wanted_at_path`) is opened by `Listener::open_when_free`, which tries until it is.
 //!
 //! Proved: each call is safe, and returns but for the waits that its bound allows; what fails is a device or memory.
 //!
-//! By its code alone, and tested through what is served (`tools/try-serve`): that a connection gets a place that is
-//! free, or is closed unanswered or takes over the first one, that a session ends whose client is idle, sends a request
-//! too slowly or doesn't take its replies, and that `close` ends each session and each thread, and gives back each of
-//! the sessions.
+//! Who may come is decided by `net_addresses`: `Clients::admits`, with its clause.
+//!
+//! By its code alone, and tested through what is served (`tools/try-serve`): that it's asked of the address which the
+//! connection has, that a connection that may come gets a place that is free, or is closed unanswered or takes over the
+//! first one, that a session ends whose client is idle, sends a request too slowly or doesn't take its replies, and that
+//! `close` ends each session and each thread, and gives back each of the sessions.
 #![tactic(auto)]
 
 mod connection;

@@ -5,6 +5,7 @@ use crate::door::{Bound, Door, DoorRuntime};
 use crate::places::Places;
 use crate::session::Session;
 use crate::wire::{Guest, Wire};
+use net_addresses::Clients;
 use plc_host::{Failed, Host, ServiceRuntime};
 use std::alloc::AllocError;
 use std::sync::Arc;
@@ -39,6 +40,8 @@ pub struct Listener<R: ServiceRuntime, S: Drop> {
     /// A session ends whose client has no whole request for so long, or doesn't take its reply.
     idle: Duration,
     when_full: WhenFull,
+    /// Who may come: without it everybody.
+    clients: Option<Arc<Clients>>,
 }
 
 impl<R: ServiceRuntime, S: Session<R> + Send + Drop + 'static> Listener<R, S> {
@@ -57,7 +60,25 @@ impl<R: ServiceRuntime, S: Session<R> + Send + Drop + 'static> Listener<R, S> {
             places: Places::new(host.alloc, sessions)?,
             idle,
             when_full,
+            clients: None,
         })
+    }
+
+    /// The same, where a connection is closed at once that comes from an address whom these don't admit: it takes no
+    /// place, nor has one give way.
+    pub fn for_clients(self, clients: Arc<Clients>) -> Listener<R, S> {
+        Listener {
+            clients: Some(clients),
+            ..self
+        }
+    }
+
+    /// Whether who has come by this connection may come.
+    fn lets_in(&self, wire: &Wire) -> bool {
+        match &self.clients {
+            Some(clients) => clients.admits(wire.peer()),
+            None => true,
+        }
     }
 
     /// A place for this connection, if one is free within so many pauses.
@@ -86,8 +107,11 @@ impl<R: ServiceRuntime, S: Session<R> + Send + Drop + 'static> Listener<R, S> {
         self.place_within(guest, PATIENCE_WITH_ONE)
     }
 
-    /// Who has come by this connection, whose replies are sent at once, and a place for him.
+    /// Who has come by this connection, if he may, whose replies are sent at once, and a place for him.
     fn admit(&self, wire: Wire) -> Option<(Guest, usize)> {
+        if !self.lets_in(&wire) {
+            return None;
+        }
         wire.hasten().ok()?;
         let guest = Guest::new(self.host.alloc, wire).ok()?;
         let place = self.place_for(&guest)?;
@@ -106,8 +130,8 @@ impl<R: ServiceRuntime, S: Session<R> + Send + Drop + 'static> Listener<R, S> {
         self.places.leave(rt, place);
     }
 
-    /// Gives each connection a session, in a thread of its own, until the door is shut and each session ended. Where no
-    /// place is free, or no thread is to be had, the connection is closed unanswered.
+    /// Gives each connection a session, in a thread of its own, until the door is shut and each session ended. Where its
+    /// client may not come, no place is free, or no thread is to be had, the connection is closed unanswered.
     fn accept_all(&self, bound: &Bound) {
         let rt = &self.host.rt;
         thread::scope(thread::scope_env(), rt, |scope| {

@@ -5,7 +5,7 @@ ghost use Rattle.std.specs.Prelude.{◌≤◌, length, IfOk};
 use std::alloc::{AllocError, Global};
 use std::io;
 use std::io::{Read, Write};
-use std::net::{Shutdown, TcpStream};
+use std::net::{IpAddr, Shutdown, TcpStream};
 use std::os::unix::net::UnixStream;
 use std::sync::Arc;
 use std::sync::atomic::{AtomicBool, Ordering};
@@ -24,6 +24,14 @@ impl Wire {
         match self {
             Wire::Tcp(stream) => stream.set_nodelay(true),
             Wire::Unix(_) => Ok(()),
+        }
+    }
+
+    /// The address that it comes from, where it comes over TCP.
+    pub(crate) fn peer(&self) -> Option<IpAddr> {
+        match self {
+            Wire::Tcp(stream) => Some(stream.peer_addr().ok()?.ip()),
+            Wire::Unix(_) => None,
         }
     }
 

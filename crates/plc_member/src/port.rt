@@ -7,6 +7,7 @@ use io_image::Naming;
 use modbus_server::{OpenServer, Seats};
 use plc_host::{Failed, ServiceRuntime};
 use plc_listener::Door;
+use std::io;
 use std::net::{Net, SocketAddr, TcpListener, TcpStream};
 
 /// What serves clients: seats that are taken by none, or a server at an open port.
@@ -25,10 +26,31 @@ pub(crate) enum Turn {
     Refused,
 }
 
+/// Where clients come in: to read and to write, and to read alone, if there's such a port.
+#[derive(Clone, Copy)]
+pub(crate) struct Addresses {
+    pub(crate) modbus: SocketAddr,
+    pub(crate) reading: Option<SocketAddr>,
+}
+
+impl Addresses {
+    /// The doors at them, if both are to be had.
+    fn doors<R: Net<Listener = TcpListener, Stream = TcpStream>>(
+        self,
+        rt: &R,
+    ) -> io::Result<(Door, Option<Door>)> {
+        let reading = match self.reading {
+            Some(address) => Some(Door::at(rt, address)?),
+            None => None,
+        };
+        Ok((Door::at(rt, self.modbus)?, reading))
+    }
+}
+
 /// The port of a machine. It can't be let go of but by `close`, which joins its threads.
 pub(crate) struct Port<R: ServiceRuntime, J: Naming> {
     rt: R,
-    address: SocketAddr,
+    addresses: Addresses,
     serving: Serving<Seats<R, J>, OpenServer<R, J>>,
 }
 
@@ -38,12 +60,12 @@ where
     J: Naming + Send + Sync + 'static,
 {
     /// It's closed. Clients are served by these seats while it's open.
-    pub(crate) fn new(rt: R, address: SocketAddr, seats: Seats<R, J>) -> Port<R, J>
+    pub(crate) fn new(rt: R, addresses: Addresses, seats: Seats<R, J>) -> Port<R, J>
         ensures { is_open result.serving ≡ false }
     {
         Port {
             rt,
-            address,
+            addresses,
             serving: Serving::Closed(seats),
         }
     }
@@ -66,11 +88,11 @@ where
     {
         let Port {
             rt,
-            address,
+            addresses,
             serving,
         } = self;
         let (serving, turn) = match serving {
-            Serving::Closed(seats) if is_wanted => opened(&rt, address, seats)?,
+            Serving::Closed(seats) if is_wanted => opened(&rt, addresses, seats)?,
             Serving::Open(server) if !is_wanted => {
                 (Serving::Closed(server.suspend()), Turn::Closed)
             }
@@ -78,7 +100,7 @@ where
         };
         let port = Port {
             rt,
-            address,
+            addresses,
             serving,
         };
         Ok((port, turn))
@@ -88,7 +110,7 @@ where
     pub(crate) fn close(self) {
         let Port {
             rt: _rt,
-            address: _address,
+            addresses: _addresses,
             serving,
         } = self;
         match serving {
@@ -100,10 +122,10 @@ where
     }
 }
 
-/// Lets clients in at this address, if it's to be had.
+/// Lets clients in at these addresses, if they are to be had.
 fn opened<R, J>(
     rt: &R,
-    address: SocketAddr,
+    addresses: Addresses,
     seats: Seats<R, J>,
 ) -> Result<(Serving<Seats<R, J>, OpenServer<R, J>>, Turn), Failed>
 where
@@ -111,8 +133,8 @@ where
     J: Naming + Send + Sync + 'static,
     ensures { IfOk result (λ r. r.1 ≡ turn_of_port false (is_open r.0) true) }
 {
-    match Door::at(rt, address) {
-        Ok(door) => Ok((Serving::Open(seats.open(door)?), Turn::Opened)),
+    match addresses.doors(rt) {
+        Ok((door, reading)) => Ok((Serving::Open(seats.open_both(door, reading)?), Turn::Opened)),
         Err(_) => Ok((Serving::Closed(seats), Turn::Refused)),
     }
 }

@@ -14,6 +14,7 @@ use il_model::{Command, InImage};
 use plc_console::SnapshotBoard;
 use plc_host::Host;
 use plc_machine::{LastScan, SeenScan as LastSeen};
+use plc_sight::ForceWatch;
 use std::sync::{Arc, Mutex, Wait};
 use std::time::{Clock, Duration, Instant};
 use vr_model::{Request, Standing};
@@ -80,8 +81,9 @@ pub(crate) struct ScanGate<R: Wait + Clock + Copy + Drop, M> {
     host: Host<R>,
     begun: Instant,
     board: Arc<ScanBoard>,
-    /// For a console of this machine.
+    /// For those of this machine who look at the controller.
     snapshots: Arc<SnapshotBoard>,
+    forces: ForceWatch,
     program: ProgramWatch<M>,
     known: Known,
     looked: Looked,
@@ -136,6 +138,7 @@ impl<R: Wait + Clock + Copy + Drop, M: Marks + Drop> ScanGate<R, M> {
             begun,
             board,
             snapshots,
+            forces: ForceWatch::new(),
             program,
             known: Known::Nothing,
             looked: Looked {
@@ -146,14 +149,18 @@ impl<R: Wait + Clock + Copy + Drop, M: Marks + Drop> ScanGate<R, M> {
         }
     }
 
-    /// Leaves a snapshot of the controller, where one is wanted and the replica takes part.
-    fn leave_snapshot(&self, replica: &Replica) {
-        if !self.snapshots.is_wanted() || !replica.is_normal() {
+    /// Leaves a snapshot of the controller, where one is wanted, and the number of forces, where the replica takes part.
+    fn leave_snapshot(&mut self, replica: &Replica) {
+        if !replica.is_normal() {
             return;
         }
+        self.forces.look(&self.host, replica, &self.snapshots);
+        let Some(wish) = self.snapshots.wish() else {
+            return;
+        };
         // Where memory runs out, it's tried behind the next step.
         if let Ok(snapshot) = replica.snapshot(self.host.alloc) {
-            self.snapshots.put(&self.host.rt, snapshot);
+            self.snapshots.put(&self.host.rt, wish, snapshot);
         }
     }
 

@@ -227,6 +227,8 @@ impl<R: MachineRuntime> Running<R> {
         };
         let has_changed = Arc::try_clone(&self.boards.has_changed);
         let ((shown, showing), has_changed) = both((shown, showing), has_changed)?;
+        let sight = Arc::try_clone(&self.boards.snapshots);
+        let ((shown, showing, has_changed), sight) = both((shown, showing, has_changed), sight)?;
         let ToShow {
             journal,
             status,
@@ -239,6 +241,7 @@ impl<R: MachineRuntime> Running<R> {
             released,
             begun: self.around.keeper.begun,
             has_changed,
+            sight,
             journal,
         };
         let image = &self.around.origin.image;

@@ -7,7 +7,7 @@ use crate::both::both;
 use crate::drive::{Drive, Parting};
 use crate::ended::{Ended, Left};
 use crate::keeper::Keeper;
-use crate::port::Port;
+use crate::port::{Addresses, Port};
 use crate::program::Marks;
 use crate::publisher::Publisher;
 use crate::receiving::Receives;
@@ -20,14 +20,14 @@ use io_image::{Naming, NewList, Pen, ReleasedReader, SharedPen, Stage, Stamp, re
 use io_model::CountedWrite;
 use modbus_server::{Seats, Shown};
 use net_peers::PeerLink;
-use plc_group::Group;
+use plc_group::{Group, Machine};
 use plc_host::{Failed, Host};
 use plc_listener::DoorRuntime;
 use plc_machine::{MachineDriver, Pace, client_starts};
 use plc_node_core::{Node, Role, ScanClient};
 use plc_page::Showing;
 use plc_status::{Journal, Journals, Notice, Printer, StatusWriter};
-use std::net::SocketAddr;
+use std::alloc::{AllocError, Global};
 use std::rt::Files;
 use std::sync::Arc;
 use std::thread;
@@ -58,11 +58,52 @@ struct Outputs<R: MachineRuntime, J: Naming, P: Pen<J> + Drop> {
     reader: ReleasedReader<J>,
 }
 
-/// What clients are served with, one for each of these readers. They are shown outputs for as long as those are fresh.
+/// How many read the outputs of a machine: a page, and each session at a port for Modbus clients.
+fn readers_of(group: &Group) -> usize {
+    if group.machines.iter().any(has_reading_port) {
+        2 * SESSIONS + 1
+    } else {
+        SESSIONS + 1
+    }
+}
+
+fn has_reading_port(machine: &Machine) -> bool {
+    machine.modbus_read.is_some()
+}
+
+/// The outputs, as those clients are shown them who have these readers: for as long as they are fresh.
+fn shown_to<J: Naming, R: MachineRuntime>(
+    group: &Group,
+    readers: Vec<ReleasedReader<J>>,
+    stamp: &Arc<Stamp<R>>,
+) -> Result<Shown<R, J>, AllocError> {
+    Ok(Shown {
+        readers,
+        stamp: Arc::try_clone(stamp)?,
+        // Ages are whole milliseconds, rounded down: so none that is shown is older than `fresh`.
+        limit: Some(group.times.fresh.saturating_sub(1)),
+    })
+}
+
+/// As many of these readers as there are sessions at a port: the others stay.
+fn first_of<J: Naming>(
+    alloc: Global,
+    readers: &mut Vec<ReleasedReader<J>>,
+) -> Result<Vec<ReleasedReader<J>>, AllocError> {
+    let mut taken = Vec::with_capacity(alloc, SESSIONS)?;
+    for _ in 0..SESSIONS {
+        if let Some(reader) = readers.pop() {
+            taken.push(reader)?;
+        }
+    }
+    Ok(taken)
+}
+
+/// What clients are served with, one for each of these readers.
 fn seats_of<J, R>(
     host: Host<R>,
     group: &Group,
-    readers: Vec<ReleasedReader<J>>,
+    mut readers: Vec<ReleasedReader<J>>,
     stamp: &Arc<Stamp<R>>,
     status: &StatusWriter,
 ) -> Result<Seats<R, J>, Failed>
@@ -70,14 +111,13 @@ where
     J: Naming + Send + Sync + 'static,
     R: MachineRuntime,
 {
-    let shown = Shown {
-        readers,
-        stamp: Arc::try_clone(stamp)?,
-        // Ages are whole milliseconds, rounded down: so none that is shown is older than `fresh`.
-        limit: Some(group.times.fresh.saturating_sub(1)),
-    };
+    let alloc = host.alloc;
+    let at_port = first_of(alloc, &mut readers)?;
     let idle = Duration::from_secs(u64::from(group.times.idle));
-    Seats::new(host, shown, idle, status.traffic()?)
+    let shown = shown_to(group, at_port, stamp)?;
+    let seats = Seats::new(host, shown, idle, status.traffic()?)?;
+    let seats = seats.for_clients(group.clients.again(alloc)?)?;
+    Ok(seats.with_reading_port(shown_to(group, readers, stamp)?)?)
 }
 
 /// The last of these readers, and the others.
@@ -102,7 +142,7 @@ where
 {
     let Host { rt, alloc } = host;
     let stamp = Arc::new(alloc, Stamp::new(rt)?)?;
-    let Ok((writer, readers)) = released::<J, R>(list, alloc, rt, SESSIONS + 1) else {
+    let Ok((writer, readers)) = released::<J, R>(list, alloc, rt, readers_of(group)) else {
         return Err(Failed::Memory);
     };
     let (writer, (reader, readers)) = both(writer, last_of(readers))?;
@@ -374,7 +414,7 @@ struct Served<R: MachineRuntime, J: Naming, P: Pen<J> + Drop> {
 /// What a machine's driver works with beside its parts.
 #[derive(Drop)]
 struct Means {
-    address: SocketAddr,
+    addresses: Addresses,
     stage: Arc<Stage>,
     driver: MachineDriver,
 }
@@ -389,7 +429,10 @@ impl<R: MachineRuntime, J: Naming, P: Pen<J> + Drop> Parts<R, J, P> {
         };
         let stage = seats.shared_stage()?;
         Ok(Means {
-            address: place.modbus,
+            addresses: Addresses {
+                modbus: place.modbus,
+                reading: place.modbus_read,
+            },
             stage,
             driver: driver_of(group, number, starts)?,
         })
@@ -405,14 +448,14 @@ impl<R: MachineRuntime, J: Naming, P: Pen<J> + Drop> Parts<R, J, P> {
         let means = self.means(group, &seats);
         let ((parts, seats), means) = both((self, seats), means)?;
         let Means {
-            address,
+            addresses,
             stage,
             driver,
         } = means;
         let (drive, thread) = parts.into_drive(host, millis(group.period), driver, stage);
         let work = Work {
             drive,
-            address,
+            addresses,
             seats,
         };
         Ok((work, thread))
@@ -467,7 +510,7 @@ where
 #[derive(Drop)]
 struct Work<R: MachineRuntime, J: Naming, P: Pen<J> + Drop> {
     drive: Drive<R, J, P>,
-    address: SocketAddr,
+    addresses: Addresses,
     seats: Seats<R, J>,
 }
 
@@ -486,10 +529,10 @@ where
     ) -> Result<Parting, Failed> {
         let Work {
             drive,
-            address,
+            addresses,
             seats,
         } = self;
-        let work = move || drive.run(Port::new(rt, address, seats));
+        let work = move || drive.run(Port::new(rt, addresses, seats));
         let Ok(thread) = thread::spawn(&rt, work) else {
             return Err(Failed::Thread);
         };

@@ -12,7 +12,7 @@ use plc_driver::{Directory, Driver, GroupLinks, Parts};
 use plc_host::{Failed, Host, ServiceRuntime};
 use plc_listener::DoorRuntime;
 use plc_page::Showing;
-use plc_settings::{Operators, Settings};
+use plc_settings::{ModbusClients, Operators, Settings};
 use plc_status::{Counts, Journals, StatusWriter};
 use std::rt::Files;
 use std::time::Instant;
@@ -33,6 +33,8 @@ pub struct Node<'a, S: Drop> {
     pub showing: Option<Showing>,
     /// How operators come to its console, if it has one.
     pub operators: Operators,
+    /// Who may come as a Modbus client.
+    pub clients: ModbusClients,
     ghost one_each: { vec_len stores ≡ group_size settings.config.f },
 }
 
@@ -86,6 +88,7 @@ impl<S: Starts + Send + Drop + 'static> Node<'_, S> {
             status,
             showing,
             operators,
+            clients,
         } = self;
         let alloc = host.alloc;
         let Journals {
@@ -96,8 +99,8 @@ impl<S: Starts + Send + Drop + 'static> Node<'_, S> {
         } = Journals::new(alloc)?;
         let notes = Notes { console, page };
         let begun = Instant::now(&host.rt)?;
-        let kept = Kept::of(alloc, &status, notes, showing, begun)?;
-        let kept = kept.with(operators);
+        let (kept, sight) = Kept::of(alloc, &status, notes, showing, begun)?;
+        let kept = kept.with(operators, clients);
         let (ready, writer) = Ready::<R, L, J>::new(
             host, list, &settings, &image, &mut links, kept,
         )?;
@@ -108,6 +111,7 @@ impl<S: Starts + Send + Drop + 'static> Node<'_, S> {
             journal,
             status,
             begun,
+            sight,
         };
         let driver = match Driver::start(host, &settings, &image, parts) {
             Ok(driver) => driver,

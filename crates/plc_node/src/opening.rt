@@ -7,7 +7,8 @@ ghost use Rattle.plc_status.specs.Notices.{IsServingTold};
 use crate::showing::{ToShow, close_page, opened_page};
 use il_loader::Image;
 use io_image::{
-    MarkingPen, Naming, NewList, Pen, ReleasedWriter, SharedPen, Stage, Stamp, released,
+    MarkingPen, Naming, NewList, Pen, ReleasedReader, ReleasedWriter, SharedPen, Stage, Stamp,
+    released,
 };
 use io_model::CountedWrite;
 use modbus_server::{OpenServer, Server, Shown};
@@ -16,7 +17,8 @@ use plc_driver::{Directory, Driver, Ended};
 use plc_host::{Failed, Host, ServiceRuntime, Traffic};
 use plc_listener::{Door, DoorRuntime};
 use plc_page::{OpenPage, Page, Showing};
-use plc_settings::{ConsoleAt, Operators, Settings};
+use plc_settings::{ConsoleAt, ModbusClients, Operators, Settings};
+use plc_sight::SnapshotBoard;
 use plc_status::{Counts, Journal, Printer, StatusReader, StatusWriter, tell_port};
 use std::alloc::{AllocError, Global};
 use std::net::{Net, SocketAddr, TcpListener, TcpStream};
@@ -45,6 +47,9 @@ pub(crate) struct Kept {
     pub(crate) status: StatusReader,
     pub(crate) shown: ToShow,
     pub(crate) operators: Operators,
+    pub(crate) clients: ModbusClients,
+    /// Where a replica leaves snapshots of the controller for those who want one.
+    pub(crate) sight: Arc<SnapshotBoard>,
 }
 
 /// Where it's noted what an operator does at the console, and what becomes of the page.
@@ -55,34 +60,44 @@ pub(crate) struct Notes {
 }
 
 impl Kept {
-    /// What is kept of a controller that began then, by what shows of it. It fails only where memory runs out.
+    /// What is kept of a controller that began then, by what shows of it, and where a replica is to leave snapshots of
+    /// it. It fails only where memory runs out.
     pub(crate) fn of(
         alloc: Global,
         status: &StatusWriter,
         notes: Notes,
         showing: Option<Showing>,
         begun: Instant,
-    ) -> Result<Kept, AllocError> {
+    ) -> Result<(Kept, Arc<SnapshotBoard>), AllocError> {
         let Notes { console, page } = notes;
+        let sight = Arc::new(alloc, SnapshotBoard::new())?;
         let shown = ToShow {
             status: status.reader()?,
             begun,
             has_changed: Arc::new(alloc, AtomicBool::new(false))?,
             journal: page,
             showing,
+            sight: Arc::try_clone(&sight)?,
         };
-        Ok(Kept {
+        let kept = Kept {
             traffic: status.traffic()?,
             console,
             status: status.reader()?,
             shown,
             operators: Operators::by_port(),
-        })
+            clients: ModbusClients::all(),
+            sight: Arc::try_clone(&sight)?,
+        };
+        Ok((kept, sight))
     }
 
-    /// The same, with operators who come so.
-    pub(crate) fn with(self, operators: Operators) -> Kept {
-        Kept { operators, ..self }
+    /// The same, with operators who come so, and these Modbus clients.
+    pub(crate) fn with(self, operators: Operators, clients: ModbusClients) -> Kept {
+        Kept {
+            operators,
+            clients,
+            ..self
+        }
     }
 }
 
@@ -132,6 +147,8 @@ where
             status,
             shown,
             operators,
+            clients,
+            sight,
         } = kept;
         let idle = Duration::from_secs(u64::from(settings.idle));
         let operator = Operator {
@@ -139,10 +156,11 @@ where
             status,
             changed: Arc::try_clone(&shown.has_changed)?,
             operators,
+            sight,
         };
         let console = operator.console(host, settings, image, links)?;
-        let door = door_at(&rt, settings.port)?;
-        let Ok((writer, mut readers)) = released::<J, R>(list, alloc, rt, SESSIONS + 1) else {
+        let doors = Doors::of(&rt, settings, &clients)?;
+        let Ok((writer, mut readers)) = released::<J, R>(list, alloc, rt, doors.readers()) else {
             return Err(Failed::Memory);
         };
         let Some(reader) = readers.pop() else {
@@ -156,7 +174,8 @@ where
             stamp,
             limit: settings.stale,
         };
-        let server = Server::new(host, door, outputs, idle, traffic)?;
+        let server = doors.server(host, outputs, idle, traffic)?;
+        let server = server.for_clients(clients.clients)?;
         let ready = Ready {
             server,
             console,
@@ -205,6 +224,78 @@ where
     }
 }
 
+/// The doors for Modbus clients.
+#[derive(Drop)]
+struct Doors {
+    door: Door,
+    /// Where everybody only reads, if there's such a port.
+    reading: Option<Door>,
+}
+
+impl Doors {
+    /// At the ports of this machine that are named.
+    fn of<R: Net<Listener = TcpListener, Stream = TcpStream>>(
+        rt: &R,
+        settings: &Settings,
+        clients: &ModbusClients,
+    ) -> Result<Doors, Failed> {
+        Ok(Doors {
+            door: door_at(rt, settings.port)?,
+            reading: match clients.reading {
+                Some(port) => Some(door_at(rt, port)?),
+                None => None,
+            },
+        })
+    }
+
+    /// How many read the outputs: a page, and each session at either port.
+    fn readers(&self) -> usize {
+        match self.reading {
+            Some(_) => 2 * SESSIONS + 1,
+            None => SESSIONS + 1,
+        }
+    }
+
+    /// A server at them, to which these outputs are shown.
+    fn server<R, J>(
+        self,
+        host: Host<R>,
+        mut outputs: Shown<R, J>,
+        idle: Duration,
+        traffic: Arc<Traffic>,
+    ) -> Result<Server<R, J>, Failed>
+    where
+        R: ServiceRuntime,
+        J: Naming + Send + Sync + 'static,
+    {
+        let Doors { door, reading } = self;
+        let Some(reading) = reading else {
+            return Ok(Server::new(host, door, outputs, idle, traffic)?);
+        };
+        let again = Shown {
+            readers: first_of(host.alloc, &mut outputs.readers)?,
+            stamp: Arc::try_clone(&outputs.stamp)?,
+            limit: outputs.limit,
+        };
+        let server = Server::new(host, door, outputs, idle, traffic)?;
+        Ok(server.with_reading_door(reading, again)?)
+    }
+}
+
+/// As many of these readers as there are sessions at a port: the others stay.
+fn first_of<J: Naming>(
+    alloc: Global,
+    readers: &mut Vec<ReleasedReader<J>>,
+) -> Result<Vec<ReleasedReader<J>>, AllocError> {
+    let mut taken = Vec::with_capacity(alloc, SESSIONS)?;
+    for _ in 0..SESSIONS {
+        if let Some(reader) = readers.pop() {
+            taken.push(reader)?;
+        }
+    }
+    Ok(taken)
+}
+
 /// What a console works with, beside its link to the group, and how operators come to it.
 #[derive(Drop)]
 struct Operator {
@@ -213,6 +304,8 @@ struct Operator {
     /// Set once another program may be in force.
     changed: Arc<AtomicBool>,
     operators: Operators,
+    /// Where a replica leaves snapshots of the controller.
+    sight: Arc<SnapshotBoard>,
 }
 
 impl Operator {
@@ -233,6 +326,7 @@ impl Operator {
             status,
             changed,
             operators,
+            sight,
         } = self;
         let Some(at) = settings.console else {
             return Ok(None);
@@ -243,7 +337,7 @@ impl Operator {
         let entrance = entrance(host, at, operators, settings.idle)?;
         let period = Duration::from_millis(u64::from(settings.period));
         let desk = Desk::new(host, settings.config, CONSOLE, link, period, journal);
-        let desk = desk.telling_changes(changed);
+        let desk = desk.telling_changes(changed).seeing(sight);
         Ok(Some(Console::new(host, entrance, desk, image, status)?))
     }
 }

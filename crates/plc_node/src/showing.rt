@@ -6,6 +6,7 @@ use plc_host::{Failed, Host, ServiceRuntime};
 use plc_listener::DoorRuntime;
 use plc_page::{OpenPage, Page, Published, Showing, Whose};
 use plc_settings::Settings;
+use plc_sight::SnapshotBoard;
 use plc_status::{Journal, StatusReader};
 use std::sync::Arc;
 use std::sync::atomic::AtomicBool;
@@ -23,6 +24,8 @@ pub(crate) struct ToShow {
     pub(crate) journal: Journal,
     /// What is shown beside it. Without it there's no page.
     pub(crate) showing: Option<Showing>,
+    /// Where a replica leaves snapshots of the controller for those who want one.
+    pub(crate) sight: Arc<SnapshotBoard>,
 }
 
 impl ToShow {
@@ -44,6 +47,7 @@ impl ToShow {
             has_changed,
             journal,
             showing,
+            sight,
         } = self;
         let (Some(address), Some(showing)) = (settings.status, showing) else {
             return Ok(None);
@@ -55,6 +59,7 @@ impl ToShow {
             released,
             begun,
             has_changed,
+            sight,
             journal,
         };
         Ok(Some(Page::new(host, address, image, showing, published)?))

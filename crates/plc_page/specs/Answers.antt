@@ -1,5 +1,5 @@
 -- What a request is answered, by what shows.
-use Rattle.std.specs.Prelude.{◌≡◌, ℕ, List, [], ◌∷◌, ◌++◌, Bool, ◌||◌, not, is_some, if◌then◌else◌, bytes_eq, Option, Some, None, codes}
+use Rattle.std.specs.Prelude.{◌≡◌, ◌⊎◌, ℕ, List, [], ◌∷◌, ◌++◌, Bool, ◌||◌, not, is_some, if◌then◌else◌, bytes_eq, Option, Some, None, codes}
 use Rattle.std.specs.List.{list_any}
 use Rattle.http.specs.declared.request.Parts.{Parts}
 use Rattle.http1.specs.Fields.{Header}
@@ -9,6 +9,9 @@ use Rattle.http_header.specs.Token.{lowercase}
 use Rattle.http_server.specs.declared.response.Response.{Response}
 use Rattle.http_server.specs.Response.{IsResponse}
 use Rattle.http_uri.specs.Uri.{uri_path, uri_scheme}
+use Rattle.il_model.specs.Snapshots.{SavedController}
+use Rattle.plc_values.specs.Seen.{IsToldOf}
+use Rattle.plc_values.specs.Values.{values_text}
 use Rattle.plc_page.specs.declared.answer.Show.{Show}
 use Rattle.plc_page.specs.declared.answer.Show.TheVariants as shows
 use Rattle.plc_page.specs.declared.answer.Site.{Site}
@@ -28,6 +31,7 @@ shown_at path = if bytes_eq path (codes "/") then Some shows.Page
     else if bytes_eq path (codes "/state") then Some shows.State
     else if bytes_eq path (codes "/metrics") then Some shows.Metrics
     else if bytes_eq path (codes "/program") then Some shows.Program
+    else if bytes_eq path (codes "/values") then Some shows.Values
     else None
 
 -- it's one of the site's names
@@ -67,6 +71,7 @@ kind_of (verdicts.Shows shows.Page) = codes "text/html; charset=utf-8"
 kind_of (verdicts.Shows shows.Style) = codes "text/css; charset=utf-8"
 kind_of (verdicts.Shows shows.Script) = codes "text/javascript; charset=utf-8"
 kind_of (verdicts.Shows shows.State) = codes "application/json"
+kind_of (verdicts.Shows shows.Values) = codes "application/json"
 kind_of (verdicts.Shows shows.Metrics) = codes "text/plain; version=0.0.4; charset=utf-8"
 kind_of _ = codes "text/plain; charset=utf-8"
 
@@ -79,21 +84,27 @@ fields_by verdict = kind_field verdict ∷ (codes "cache-control", codes "no-sto
     ∷ (codes "x-content-type-options", codes "nosniff") ∷ (codes "content-security-policy", POLICY.now)
     ∷ (codes "allow", codes "GET, HEAD") ∷ []
 
--- what stands in an answer, by what shows and by the text of the program
-abbrev pub content_of : Site → Verdict → Reading → List ℕ → List ℕ
-content_of site (verdicts.Shows shows.Page) reading program = page_text reading
-content_of site (verdicts.Shows shows.Style) reading program = STYLE.now
-content_of site (verdicts.Shows shows.Script) reading program = SCRIPT.now
-content_of site (verdicts.Shows shows.State) reading program = state_text site.version.now reading
-content_of site (verdicts.Shows shows.Metrics) reading program = metrics_text site.version.now reading
-content_of site (verdicts.Shows shows.Program) reading program = program
-content_of site verdicts.Malformed reading program = codes "The request has no Host.\n"
-content_of site verdicts.Misdirected reading program = codes "This is another host.\n"
-content_of site verdicts.Refused reading program = codes "This page is only read.\n"
-content_of site verdicts.Missing reading program = codes "There is nothing here.\n"
+-- what stands in an answer, by what shows and by the texts of the program and of the values
+abbrev pub content_of : Site → Verdict → Reading → List ℕ → List ℕ → List ℕ
+content_of site (verdicts.Shows shows.Page) reading program seen = page_text reading
+content_of site (verdicts.Shows shows.Style) reading program seen = STYLE.now
+content_of site (verdicts.Shows shows.Script) reading program seen = SCRIPT.now
+content_of site (verdicts.Shows shows.State) reading program seen = state_text site.version.now reading
+content_of site (verdicts.Shows shows.Metrics) reading program seen = metrics_text site.version.now reading
+content_of site (verdicts.Shows shows.Program) reading program seen = program
+content_of site (verdicts.Shows shows.Values) reading program seen = seen
+content_of site verdicts.Malformed reading program seen = codes "The request has no Host.\n"
+content_of site verdicts.Misdirected reading program seen = codes "This is another host.\n"
+content_of site verdicts.Refused reading program seen = codes "This page is only read.\n"
+content_of site verdicts.Missing reading program seen = codes "There is nothing here.\n"
 
 -- the response answers the request, by what shows
-abbrev pub IsAnswered : Site → Parts → Reading → List ℕ → Response → Type 0
-IsAnswered site head reading program =
+abbrev pub IsAnswered : Site → Parts → Reading → List ℕ → List ℕ → Response → Type 0
+IsAnswered site head reading program seen =
     IsResponse (code_of (verdict_of site head)) (fields_by (verdict_of site head))
-    (content_of site (verdict_of site head) reading program)
+    (content_of site (verdict_of site head) reading program seen)
+
+-- what shows of the values: nothing where they aren't asked for, null where there are none, else all of them, told of
+-- one controller, so of one scan
+abbrev pub AreSeen : List ℕ → Type 0
+AreSeen seen = (seen ≡ []) ⊎ (seen ≡ codes "null\n") ⊎ ((s : SavedController) × IsToldOf s values_text seen)

@@ -32,6 +32,8 @@ pub enum Show {
     Metrics,
     /// The listing of the program.
     Program,
+    /// The values of the controller's variables, as JSON.
+    Values,
 }
 
 /// How a request is answered.
@@ -73,6 +75,8 @@ fn shown_at(path: &str) -> Option<Show>
         Some(Show::Metrics)
     } else if path == "/program" {
         Some(Show::Program)
+    } else if path == "/values" {
+        Some(Show::Values)
     } else {
         None
     }
@@ -140,7 +144,9 @@ fn kind_of(verdict: Verdict) -> HeaderValue
         Verdict::Shows(Show::Page) => HeaderValue::from_static("text/html; charset=utf-8"),
         Verdict::Shows(Show::Style) => HeaderValue::from_static("text/css; charset=utf-8"),
         Verdict::Shows(Show::Script) => HeaderValue::from_static("text/javascript; charset=utf-8"),
-        Verdict::Shows(Show::State) => HeaderValue::from_static("application/json"),
+        Verdict::Shows(Show::State | Show::Values) => {
+            HeaderValue::from_static("application/json")
+        }
         Verdict::Shows(Show::Metrics) => {
             HeaderValue::from_static("text/plain; version=0.0.4; charset=utf-8")
         }
@@ -192,8 +198,10 @@ fn put_content(
     verdict: Verdict,
     reading: &Reading,
     program: &[u8],
+    seen: &[u8],
 ) -> Result<(), AllocError>
-    ensures { OnOk result (IsAdded out.old.items (content_of site.now verdict reading.now program.now) out.new.items) }
+    ensures { OnOk result (IsAdded out.old.items
+        (content_of site.now verdict reading.now program.now seen.now) out.new.items) }
 {
     match verdict {
         Verdict::Shows(Show::Page) => put_page(out, reading),
@@ -202,6 +210,7 @@ fn put_content(
         Verdict::Shows(Show::State) => put_state(out, site.version, reading),
         Verdict::Shows(Show::Metrics) => put_metrics(out, site.version, reading),
         Verdict::Shows(Show::Program) => put(out, program),
+        Verdict::Shows(Show::Values) => put(out, seen),
         Verdict::Malformed => put(out, b"The request has no Host.\n"),
         Verdict::Misdirected => put(out, b"This is another host.\n"),
         Verdict::Refused => put(out, b"This page is only read.\n"),
@@ -216,11 +225,13 @@ fn content_of(
     verdict: Verdict,
     reading: &Reading,
     program: &[u8],
+    seen: &[u8],
 ) -> Result<Vec<u8>, AllocError>
-    ensures { IfOk result (λ v. v.items ≡ content_of site.now verdict reading.now program.now) }
+    ensures { IfOk result
+        (λ v. v.items ≡ content_of site.now verdict reading.now program.now seen.now) }
 {
     let mut out = Vec::new(alloc);
-    put_content(&mut out, site, verdict, reading, program)?;
+    put_content(&mut out, site, verdict, reading, program, seen)?;
     Ok(out)
 }
 
@@ -238,19 +249,21 @@ pub fn put_answer(
     response.body.put_slice(content)
 }
 
-/// Answers a request, by what shows, and by the text of the program.
+/// Answers a request, by what shows, and by the texts of the program and of the values.
 pub fn respond(
     alloc: Global,
     site: &Site,
     request: &Request<Bytes>,
     reading: &Reading,
     program: &[u8],
+    seen: &[u8],
     response: &mut Response,
 ) -> Result<(), AllocError>
     requires { IsBlank response.old }
-    ensures { OnOk result (IsAnswered site.now (head_of request.now) reading.now program.now response.new) }
+    ensures { OnOk result (IsAnswered site.now (head_of request.now) reading.now program.now
+        seen.now response.new) }
 {
     let verdict = verdict_of(site, request);
-    let content = content_of(alloc, site, verdict, reading, program)?;
+    let content = content_of(alloc, site, verdict, reading, program, seen)?;
     put_answer(verdict, content.as_slice(), response)
 }

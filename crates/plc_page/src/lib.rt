@@ -10,7 +10,8 @@
 //! ```
 //!
 //! Proved: what a request is answered is a function of its method, its path, its host and of what was read
-//! (`specs/Answers`): 200 with the page, the JSON or the figures, or 400, 404, 405, 421; each output has the value at
+//! (`specs/Answers`): 200 with the page, the JSON or the figures, or 400, 404, 405, 421; the values of variables that
+//! show are told of one controller, so of one scan (`AreSeen`); each output has the value at
 //! its own place (`specs/Sources`), under the name of a variable that lies there, or else of the first one that an
 //! instance hands over there (`specs/Outputs`); the last 200 lines that were told are kept (`specs/Sources`). What goes
 //! out over a connection answers the requests that came in, in order (`http_server` of the kit).

@@ -29,7 +29,8 @@ const HEAD: &str = r#"<!doctype html>
 <script src="script.js" defer></script>
 </head>
 <body>
-<header><span id="lamp" class="lamp"></span><h1>PLC</h1><p id="says" role="status"></p><p id="version"></p></header>
+<header><span id="lamp" class="lamp"></span><h1>PLC</h1><p id="says" role="status"></p>
+<p id="forced" role="alert" hidden></p><p id="version"></p></header>
 <main>
 <pre id="plain">
 "#;
@@ -45,6 +46,11 @@ const TAIL: &str = r#"</pre>
 <tbody id="replicas"></tbody></table></section>
 <section id="ins"><h2>Inputs</h2><ul id="inputs"></ul></section>
 <section id="outs"><h2>Outputs</h2><ul id="outputs"></ul></section>
+<section id="vals" class="wide" hidden><h2>Values</h2>
+<input id="filter" type="search" placeholder="part of a name" aria-label="Show names with this in them">
+<p id="forces" hidden></p>
+<ul id="trends" aria-label="The last ten minutes"></ul>
+<ul id="values"></ul></section>
 <section id="told"><h2>Notices</h2>
 <ol id="notices" tabindex="0" aria-label="Notices, the last one first"></ol></section>
 </div>
@@ -72,6 +78,9 @@ header { display: flex; flex-wrap: wrap; gap: .25rem .75rem; align-items: center
 h1 { font-size: 1.15rem; margin: 0; letter-spacing: .04em; }
 header p { margin: 0; }
 #version { margin-left: auto; color: var(--quiet); font-size: .85rem; }
+#forced { background: var(--bad); color: var(--card); font-weight: 700; letter-spacing: .06em; padding: .1rem .7rem;
+  border-radius: .3rem; }
+#forced[hidden] { display: none; }
 main { max-width: 76rem; margin: 0 auto; padding: 1.25rem; }
 #view { display: grid; gap: 1rem; grid-template-columns: repeat(auto-fit, minmax(min(21rem, 100%), 1fr)); }
 #view[hidden], section[hidden], pre[hidden] { display: none; }
@@ -88,9 +97,9 @@ th { text-align: left; font-weight: 500; color: var(--quiet); font-size: .85rem;
 th, td { padding: .3rem .5rem .3rem 0; border-bottom: 1px solid var(--line); }
 tbody tr:last-child td { border-bottom: 0; }
 ul, ol { list-style: none; margin: 0; padding: 0; }
-#inputs li, #outputs li { display: flex; gap: .7rem; align-items: center; padding: .3rem 0;
+#inputs li, #outputs li, #values li { display: flex; gap: .7rem; align-items: center; padding: .3rem 0;
   border-bottom: 1px solid var(--line); }
-#inputs li:last-child, #outputs li:last-child { border-bottom: 0; }
+#inputs li:last-child, #outputs li:last-child, #values li:last-child { border-bottom: 0; }
 .name { overflow-wrap: anywhere; }
 .place { margin-left: auto; color: var(--quiet); font: .85rem ui-monospace, "DejaVu Sans Mono", monospace; }
 .number { min-width: 4.5rem; text-align: right; font-weight: 600; font-variant-numeric: tabular-nums; }
@@ -101,7 +110,19 @@ ul, ol { list-style: none; margin: 0; padding: 0; }
 .lamp.warn { background: var(--warn); box-shadow: 0 0 .5rem var(--warn); }
 .bit { min-width: 4.5rem; display: flex; gap: .5rem; align-items: center; justify-content: flex-end;
   color: var(--quiet); }
-#inputs .fold, #outputs .fold { display: block; }
+#inputs .fold, #outputs .fold, #values .fold { display: block; }
+#values .set { background: var(--mark); }
+#forces { margin: .2rem 0 .4rem; color: var(--bad); font-weight: 600; overflow-wrap: anywhere; }
+#values .set .name::after { content: "forced"; margin-left: .6rem; color: var(--bad); font-size: .8rem;
+  font-weight: 700; }
+#values button { font: inherit; color: inherit; background: none; border: 0; padding: 0; text-align: left;
+  cursor: pointer; }
+#values button[aria-pressed="true"] { text-decoration: underline; }
+#trends li { display: flex; flex-wrap: wrap; gap: .7rem; align-items: center; padding: .3rem 0; }
+#trends svg { flex-basis: 100%; height: 4rem; background: var(--page); border-radius: .3rem; }
+#trends path { fill: none; stroke: var(--lit); stroke-width: 1.5; vector-effect: non-scaling-stroke; }
+#filter { font: inherit; width: 100%; max-width: 24rem; padding: .3rem .5rem; margin-bottom: .4rem;
+  color: inherit; background: var(--page); border: 1px solid var(--line); border-radius: .3rem; }
 .fold ul { margin-top: .3rem; padding-left: 1.3rem; border-top: 1px solid var(--line); }
 summary { display: flex; gap: .7rem; align-items: center; cursor: pointer; }
 summary::-webkit-details-marker { display: none; }
@@ -117,6 +138,7 @@ summary > * { pointer-events: none; }
 #halted ol { color: var(--text); font-weight: 400; }
 #listing, #notices { max-height: 18rem; overflow: auto; font: .85rem/1.6 ui-monospace, "DejaVu Sans Mono", monospace; }
 #listing { counter-reset: line; }
+#listing .stop { box-shadow: inset .3rem 0 var(--warn); }
 #listing li { counter-increment: line; white-space: pre; padding: 0 .5rem 0 4rem; position: relative;
   min-width: max-content; }
 #listing li::before { content: counter(line); position: absolute; left: 0; width: 3rem; text-align: right;
@@ -237,6 +259,106 @@ function points(box, list, points) {
   refill(byId(list), branches('', points));
 }
 
+// What was seen of the names that were chosen in the last ten minutes: only this page has it.
+const chosen = new Map();
+const SPAN = 600;
+
+function number(it) {
+  const { value } = it;
+  if (typeof value === 'number') return value;
+  return value.startsWith('16#') ? parseInt(value.slice(3), 16) : Number(value);
+}
+
+function sample(all, now) {
+  for (const it of all) if (it.value !== null) chosen.get(it.name)?.push({ at: now, value: number(it) });
+  for (const samples of chosen.values()) while (samples.length > 0 && samples[0].at < now - SPAN) samples.shift();
+}
+
+const drawn = (name, given) => {
+  const made = document.createElementNS('http://www.w3.org/2000/svg', name);
+  for (const [key, it] of Object.entries(given)) made.setAttribute(key, it);
+  return made;
+};
+
+// A value stays until another one is seen; where nothing was for five seconds, there's a gap.
+function path(samples, now, least, most) {
+  const y = (it) => most === least ? 30 : (57 - 54 * (it.value - least) / (most - least)).toFixed(1);
+  const x = (it) => (SPAN - now + it.at).toFixed(1);
+  return samples.map((it, at) => at === 0 || it.at - samples[at - 1].at > 5 ? 'M' + x(it) + ' ' + y(it)
+    : 'H' + x(it) + 'V' + y(it)).join('');
+}
+
+function trend([name, samples], now) {
+  const seen = samples.map((it) => it.value);
+  const least = Math.min(...seen);
+  const most = Math.max(...seen);
+  const box = drawn('svg', { viewBox: '0 0 600 60', preserveAspectRatio: 'none', role: 'img',
+    'aria-label': name + ' in the last ten minutes' });
+  if (seen.length > 0) box.append(drawn('path', { d: path(samples, now, least, most) }));
+  const words = seen.length === 0 ? 'not seen' : least === most ? String(least) : least + ' to ' + most;
+  return make('li', '', make('span', 'name', name), make('span', 'place', words), box);
+}
+
+function choose(name) {
+  if (!chosen.delete(name)) chosen.set(name, []);
+}
+
+// A row stays the same element, so that it keeps the focus.
+const rows = new Map();
+
+function row(name) {
+  if (!rows.has(name)) {
+    const pick = make('button', 'name', name);
+    pick.title = 'shows its last ten minutes, or no more';
+    pick.onclick = () => choose(name);
+    const place = make('span', 'place');
+    const box = make('span', '');
+    rows.set(name, { item: make('li', '', pick, place, box), pick, place, box });
+  }
+  return rows.get(name);
+}
+
+function value(it) {
+  const { item, pick, place, box } = row(it.name);
+  item.className = it.forced ? 'set' : '';
+  pick.setAttribute('aria-pressed', chosen.has(it.name));
+  place.textContent = it.place === null ? it.type ?? '' : it.type + ' ' + it.place;
+  box.className = it.type === 'BOOL' ? 'bit' : 'number';
+  if (it.type === 'BOOL') box.replaceChildren(it.value ? 'on' : 'off', lamp(it));
+  else box.textContent = it.type === 'TIME' ? it.value + ' ms' : it.value;
+  return item;
+}
+
+// An instance is one line until it's opened; the filter opens nothing.
+function instance(it, fields) {
+  const { item, line, list } = foldAt('values of ' + it.name);
+  line.replaceChildren(make('span', 'name', it.name), make('span', 'place', it.type),
+    make('span', 'lamps', ...fields.filter((field) => field.type === 'BOOL').map(lamp)));
+  refill(list, fields.map(value));
+  return item;
+}
+
+// Where breakpoints were when values were asked for last.
+let breaks = [];
+
+async function values() {
+  const answer = await fetch('values');
+  const seen = answer.ok ? await answer.json() : null;
+  byId('vals').hidden = seen === null;
+  if (seen === null) return;
+  breaks = seen.breaks;
+  byId('forces').hidden = seen.forces.length === 0;
+  byId('forces').textContent = 'Forced: ' + seen.forces.map((it) => it.place + ' = ' + it.value).join(', ');
+  const now = performance.now() / 1000;
+  sample([...seen.variables, ...seen.instances.flatMap((it) => it.fields)], now);
+  fill('trends', [...chosen].map((it) => trend(it, now)));
+  const wanted = byId('filter').value.trim().toLowerCase();
+  const fits = (it) => it.name.toLowerCase().includes(wanted);
+  const blocks = seen.instances.map((it) => [it, it.fields.filter(fits)]).filter(([, fields]) => fields.length > 0);
+  refill(byId('values'), [...seen.variables.filter(fits).map(value),
+    ...blocks.map(([it, fields]) => instance(it, fields))]);
+}
+
 function replica(it, isGood) {
   const state = it.failed ? it.status + ', store failed' : it.primary ? it.status + ', primary' : it.status;
   const kind = it.failed || it.status === 'down' ? 'bad' : it.status === 'normal' && isGood ? 'good' : 'warn';
@@ -262,12 +384,15 @@ async function halted(halt) {
   if (halt === null) return;
   const isHeld = halt.why === 'held';
   const all = await program();
-  const at = all.lastIndexOf('END_VAR') + 1 + halt.position;
+  const first = all.lastIndexOf('END_VAR') + 1;
+  const at = first + halt.position;
   const place = all.length > 0 ? 'line ' + (at + 1) : 'instruction ' + halt.position;
   byId('halted').className = isHeld ? 'wide warn' : 'wide bad';
   byId('why').textContent = isHeld ? 'Held before ' + place : 'Stopped at ' + place + ': ' + halt.why;
   const box = byId('listing');
   if (box.children.length !== all.length) fill('listing', all.map((line) => make('li', '', line)));
+  box.querySelectorAll('.stop').forEach((it) => it.classList.remove('stop'));
+  for (const position of all.length > 0 ? breaks : []) box.children[first + position]?.classList.add('stop');
   const marked = box.children[at];
   if (marked === undefined || marked.hasAttribute('aria-current')) return;
   box.querySelector('[aria-current]')?.removeAttribute('aria-current');
@@ -307,6 +432,9 @@ async function show() {
   byId('version').textContent = 'plc ' + version
     + (process === null ? '' : ', ' + (process.memory / 1048576).toFixed(1) + ' MB');
   judge(state);
+  const forced = 'FORCED ' + state.forces;
+  if (byId('forced').textContent !== forced) byId('forced').textContent = forced;
+  byId('forced').hidden = state.forces === 0;
   tiles(state);
   fill('replicas', state.replicas.map((it) => replica(it, !isAlone(state))));
   points('ins', 'inputs', state.inputs);
@@ -328,7 +456,18 @@ async function go() {
   }
   setTimeout(go, 1000);
 }
+
+// By itself, since values may be waited for: where no replica leaves any, the rest of the page goes on.
+async function look() {
+  try {
+    await values();
+  } catch (fault) {
+    byId('vals').hidden = true;
+  }
+  setTimeout(look, 1000);
+}
 go();
+look();
 "#;
 
 /// Adds a text.

@@ -1,18 +1,25 @@
 //! The service: a port for browsers and whatever else asks, each connection with a session of its own.
 
-ghost use Rattle.std.specs.Prelude.{◌≡◌};
+ghost use Rattle.std.specs.Prelude.{◌≡◌, IfOk, IfSome};
+ghost use Rattle.il_model.specs.Snapshots.{SavedController};
+ghost use Rattle.plc_page.specs.Answers.{AreSeen};
 ghost use Rattle.plc_page.specs.Sources.{IsLimited};
+ghost use Rattle.plc_values.specs.Seen.{IsToldOf};
+ghost use Rattle.plc_values.specs.Values.{values_text};
 
-use crate::answer::{Site, respond};
+use crate::answer::{Show, Site, Verdict, respond, verdict_of};
 use crate::source::{Source, Taken};
 use bytes::Bytes;
 use http::Request;
 use http_server::{Config, Response, Service, serve};
 use http1::Limits;
+use il_model::Snapshot;
 use io_image::Naming;
 use plc_host::{Failed, Host, ServiceRuntime};
 use plc_listener::{Connection, Door, DoorRuntime, Listener, OpenListener, Session, WhenFull};
+use plc_sight::SnapshotBoard;
 use plc_status::{DoorNotice, Doorway, Journal, Notice};
+use plc_values::values;
 use std::alloc::{AllocError, Global};
 use std::hash::RandomState;
 use std::sync::{Arc, Mutex, Wait};
@@ -29,6 +36,9 @@ const LONGEST_HEAD: usize = 8192;
 
 /// While more bytes than this wait to be sent, no request is read.
 const MOST_PENDING: usize = 65536;
+
+/// So often a snapshot of the controller is looked for, each 5 ms, where its values are asked for.
+const TRIES: u32 = 400;
 
 /// The limits of a connection.
 pub fn limits() -> Config
@@ -52,6 +62,8 @@ struct Seat<J: Naming> {
     site: Arc<Site>,
     program: Arc<Vec<u8>>,
     source: Arc<Mutex<Source<J>>>,
+    /// Where a replica leaves what it has for those who want to see it.
+    sight: Arc<SnapshotBoard>,
     keys: RandomState,
     /// What notes whether the page's port is had, at one of the seats.
     doorkeeper: Option<Doorkeeper>,
@@ -80,6 +92,7 @@ impl<J: Naming> Seat<J> {
             site: Arc::try_clone(&self.site)?,
             program: Arc::try_clone(&self.program)?,
             source: Arc::try_clone(&self.source)?,
+            sight: Arc::try_clone(&self.sight)?,
             keys: self.keys,
             doorkeeper: None,
         })
@@ -123,30 +136,63 @@ struct Answering<'a, R: Copy, J: Naming> {
     /// The text of the program that was served at first.
     program: &'a [u8],
     source: &'a Mutex<Source<J>>,
+    sight: &'a SnapshotBoard,
+}
+
+/// All that a controller has, by a snapshot of it, if there is one.
+fn told(alloc: Global, snapshot: Option<Snapshot>) -> Option<Vec<u8>>
+    ensures { IfSome result (λ v. (s : SavedController) × IsToldOf s values_text v.items) }
+{
+    values(alloc, snapshot?)
+}
+
+/// The same: null where there's none.
+fn told_or_null(alloc: Global, snapshot: Option<Snapshot>) -> Result<Vec<u8>, AllocError>
+    ensures { IfOk result (λ v. AreSeen v.items) }
+{
+    match told(alloc, snapshot) {
+        Some(text) => Ok(text),
+        None => Vec::from_slice(alloc, b"null\n"),
+    }
+}
+
+impl<R: Wait + Clock + Copy, J: Naming> Answering<'_, R, J> {
+    /// All that the controller has, where this asks for it.
+    fn seen(&self, request: &Request<Bytes>) -> Result<Vec<u8>, AllocError>
+        ensures { IfOk result (λ v. AreSeen v.items) }
+    {
+        let Host { rt, alloc } = self.host;
+        match verdict_of(self.site, request) {
+            Verdict::Shows(Show::Values) => told_or_null(*alloc, self.sight.get(rt, TRIES)),
+            _ => Ok(Vec::new(*alloc)),
+        }
+    }
 }
 
 impl<R: Wait + Clock + Copy, J: Naming> Service for Answering<'_, R, J> {
     ghost use Rattle.std.specs.Prelude.{◌≡◌, ℕ, List};
     ghost use Rattle.http.specs.Request.{head_of};
     ghost use Rattle.plc_figures.specs.declared.reading.Reading.{Reading};
-    ghost use Rattle.plc_page.specs.Answers.{IsAnswered};
+    ghost use Rattle.plc_page.specs.Answers.{AreSeen, IsAnswered};
 
     ghost answers = { λ old request response new. (new.site ≡ old.site)
-        × ((reading : Reading) × (program : List ℕ)
-        × IsAnswered old.site.now (head_of request) reading program response) };
+        × ((reading : Reading) × (program : List ℕ) × (seen : List ℕ) × AreSeen seen
+        × IsAnswered old.site.now (head_of request) reading program seen response) };
 
     fn call(
         &mut self,
         request: &Request<Bytes>,
         response: &mut Response,
     ) -> Result<(), AllocError> {
+        let seen = self.seen(request)?;
         let Taken {
             reading,
             is_in_force,
         } = self.source.lock(&self.host.rt).read(self.host)?;
         let program = if is_in_force { self.program } else { &[] };
         let alloc = self.host.alloc;
-        respond(alloc, self.site, request, &reading, program, response)?;
+        let seen = seen.as_slice();
+        respond(alloc, self.site, request, &reading, program, seen, response)?;
         Ok(())
     }
 }
@@ -158,6 +204,7 @@ impl<R: Wait + Clock + Copy + Drop, J: Naming> Session<R> for Seat<J> {
             site: &self.site,
             program: self.program.as_slice(),
             source: &self.source,
+            sight: &self.sight,
         };
         let (mut reader, mut writer) = (connection, connection);
         let mut served = http_server::Connection::new(host.alloc, self.keys, limits());
@@ -192,10 +239,12 @@ impl<R: ServiceRuntime, J: Naming + Send + Sync + 'static> Page<R, J> {
             source,
             keys,
         } = content;
+        let sight = Arc::try_clone(&source.sight)?;
         let last = Seat {
             site: Arc::new(host.alloc, site)?,
             program: Arc::new(host.alloc, program)?,
             source: Arc::new(host.alloc, Mutex::new(source))?,
+            sight,
             keys,
             doorkeeper: None,
         };

@@ -13,6 +13,7 @@ use io_image::{Naming, ReleasedReader};
 use io_model::Counted;
 use plc_host::{Failed, Host};
 use plc_listener::{Door, DoorRuntime};
+use plc_sight::SnapshotBoard;
 use plc_status::{Journal, StatusReader};
 use std::alloc::{AllocError, Global};
 use std::hash::RandomState;
@@ -47,6 +48,8 @@ pub struct Published<J: Naming> {
     pub begun: Instant,
     /// The program may be another one than that which was served at first. It's set before that is so.
     pub has_changed: Arc<AtomicBool>,
+    /// Where a replica leaves what it has for those who want to see it.
+    pub sight: Arc<SnapshotBoard>,
     /// Where it's noted that the page's port isn't to be had at once, and then that it is.
     pub journal: Journal,
 }
@@ -111,6 +114,7 @@ fn source_of<J: Naming>(
         released,
         begun,
         has_changed,
+        sight,
         journal,
     } = published;
     let source = Source {
@@ -121,6 +125,7 @@ fn source_of<J: Naming>(
         begun,
         longest_age: Duration::from_millis(LONGEST_AGE.max(3 * u64::from(period))),
         has_changed,
+        sight,
         notices,
         process,
     };

@@ -12,6 +12,7 @@ use il_model::{Cells, Loc, Value, word_value};
 use io_image::{Naming, ReleasedReader};
 use plc_figures::{Clients, Halt, Machine, Point, Reading, Replica, Scans};
 use plc_host::Host;
+use plc_sight::SnapshotBoard;
 use plc_status::{ScanStatus, Status, StatusReader};
 use std::alloc::{AllocError, Global};
 use std::ops::Range;
@@ -33,6 +34,8 @@ pub(crate) struct Source<J: Naming> {
     pub(crate) longest_age: Duration,
     /// The program may be another one than that whose outputs these are.
     pub(crate) has_changed: Arc<AtomicBool>,
+    /// Where a replica leaves what it has for those who want to see it.
+    pub(crate) sight: Arc<SnapshotBoard>,
     pub(crate) notices: Arc<Notices>,
     pub(crate) process: Option<ProcessFiles>,
 }
@@ -217,6 +220,7 @@ impl<J: Naming> Source<J> {
             scans: scans_of(&scans, self.age(&rt, &scans), self.longest_age),
             clients: clients_of(&status),
             process,
+            forces: self.sight.forces(),
             inputs: Vec::new(alloc),
             outputs,
             notices: self.notices.last(&rt)?,

@@ -9,7 +9,7 @@ use il_text::{Fault, image};
 use plc_driver::Directory;
 use plc_host::{Failed, Host};
 use plc_page::Showing;
-use plc_settings::{Operators, Settings};
+use plc_settings::{ModbusClients, Operators, Settings};
 use plc_status::StatusWriter;
 use std::alloc::{AllocError, Global};
 use std::fs;
@@ -30,6 +30,8 @@ pub struct Service<S: Drop> {
     pub showing: Option<Showing>,
     /// How operators come to its console, if it has one.
     pub operators: Operators,
+    /// Who may come as a Modbus client.
+    pub clients: ModbusClients,
     ghost one_each: { vec_len stores ≡ group_size settings.config.f },
 }
 
@@ -59,13 +61,14 @@ impl<R: Files + Alloc<A = Global> + Copy + Drop> Service<FileStore<R>> {
             status: StatusWriter::new(alloc)?,
             showing,
             operators: Operators::by_port(),
+            clients: ModbusClients::all(),
         })
     }
 }
 
 impl<S: Drop> Service<S> {
-    /// The same, with operators who come so.
-    pub fn with(self, operators: Operators) -> Service<S>
+    /// The same, with operators who come so, and these Modbus clients.
+    pub fn with(self, operators: Operators, clients: ModbusClients) -> Service<S>
         ensures settings { result.settings ≡ self.settings }
         ensures source { result.source ≡ self.source }
     {
@@ -77,6 +80,7 @@ impl<S: Drop> Service<S> {
             status,
             showing,
             operators: _port,
+            clients: _all,
         } = self;
         Service {
             source,
@@ -86,6 +90,7 @@ impl<S: Drop> Service<S> {
             status,
             showing,
             operators,
+            clients,
         }
     }
 }
@@ -110,6 +115,7 @@ pub(crate) struct Loaded<S: Drop> {
     pub(crate) status: StatusWriter,
     pub(crate) showing: Option<Showing>,
     pub(crate) operators: Operators,
+    pub(crate) clients: ModbusClients,
     ghost one_each: { vec_len stores ≡ group_size settings.config.f },
 }
 
@@ -130,6 +136,7 @@ impl<S: Drop> Loaded<S> {
             status,
             showing,
             operators,
+            clients,
         } = service;
         Ok(Loaded {
             image: image(alloc, source.as_slice())?,
@@ -140,6 +147,7 @@ impl<S: Drop> Loaded<S> {
             status,
             showing,
             operators,
+            clients,
         })
     }
 }

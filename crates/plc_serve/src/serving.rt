@@ -141,6 +141,7 @@ where
         status,
         showing,
         operators,
+        clients,
         ..
     } = loaded;
     let directory = Directory {
@@ -158,6 +159,7 @@ where
         status,
         showing,
         operators,
+        clients,
     };
     let done = reported::<J, R, S, F, E>(host, list, node, report, err);
     taken.leave(&rt);

@@ -27,6 +27,7 @@
 #![tactic(auto)]
 
 use il_model::Budget;
+use net_addresses::Clients;
 use std::net::SocketAddr;
 use vr_model::Config;
 
@@ -63,6 +64,25 @@ impl Operators {
         Operators {
             path: None,
             key: None,
+        }
+    }
+}
+
+/// Who may come to a controller as a Modbus client.
+#[derive(Drop, PartialEq, Eq)]
+pub struct ModbusClients {
+    /// By the addresses that they come from.
+    pub clients: Clients,
+    /// A further port of 127.0.0.1, at which everybody only reads, if one is wanted.
+    pub reading: Option<u16>,
+}
+
+impl ModbusClients {
+    /// Everybody, to read and to write, by one port.
+    pub fn all() -> ModbusClients {
+        ModbusClients {
+            clients: Clients::all(),
+            reading: None,
         }
     }
 }

@@ -12,7 +12,7 @@ use Rattle.plc_words.specs.declared.error.WordsError.TheVariants as errors
 
 -- a controller that is to be served ends after a minute without a majority of its replicas
 abbrev pub IsLostAfterAMinute : Words → Type 0
-IsLostAfterAMinute (words.Serve source stores report settings operators) = settings.lost_after ≡ 60
+IsLostAfterAMinute (words.Serve source stores report settings operators clients) = settings.lost_after ≡ 60
 IsLostAfterAMinute _ = Unit {0}
 
 -- ---- where they ask for no work

@@ -7,9 +7,9 @@ use crate::options::{
     CHANGE, CHECK, CONSOLE_SOCKET, CRASH, DIRECTORY, IDLE, IMAGE, LISTED, PERIOD, REPORT, SCANS,
     SOURCE, STALE, asked_commands, budget, changed, changed_listing, console, console_key, count,
     directory, epoch, every, failures, faults, field_status, file, flag, forget, formatted_group,
-    formatted_source, hours, links, machine, made_store, new_group, new_key, next_epoch, once,
-    place, port, position, schedule, seed, served_group, served_source, simulated_group, status,
-    stop, text, timeout, told, trace, until, wait,
+    formatted_source, hours, links, machine, made_store, modbus_allow, modbus_read_only, new_group,
+    new_key, next_epoch, once, place, port, position, read_port, schedule, seed, served_group,
+    served_source, simulated_group, status, stop, text, timeout, told, trace, until, wait,
 };
 use clap::{Arg, Command};
 use std::alloc::{AllocError, Global};
@@ -260,6 +260,7 @@ fn show_forms() -> [Form; 3] {
 fn put_served<'a>(alloc: Global, args: &mut Vec<Arg<'a>>) -> Result<(), AllocError> {
     put_all(alloc, args, &served_forms())?;
     put_all(alloc, args, &scan_forms())?;
+    put_all(alloc, args, &client_forms())?;
     put_all(alloc, args, &door_forms())
 }
 
@@ -288,6 +289,11 @@ fn scan_forms() -> [Form; 10] {
         count(CRASH, "K").help("Crashes a replica after every K scans, and restarts it"),
         text(REPORT, "FILE").help("The file for a report at the end"),
     ]
+}
+
+/// Which Modbus clients may come, and what they may do.
+fn client_forms() -> [Form; 3] {
+    [modbus_allow(), modbus_read_only(), read_port()]
 }
 
 /// How operators come to it, and what is shown of it.

@@ -3,6 +3,7 @@
 ghost use Rattle.std.specs.Prelude.{◌≡◌, IfOk, IfSome};
 ghost use Rattle.plc_words.specs.Asked.{IsLostAfterAMinute};
 
+use crate::clients::modbus_clients;
 use crate::commands::program;
 use crate::console::{AskedConsole, Fetching, Origin, origin_of, place_of};
 use crate::error::WordsError;
@@ -17,7 +18,7 @@ use crate::places::place_at;
 use clap::ArgMatches;
 use il_model::Budget;
 use il_places::Asked;
-use plc_settings::{ConsoleAt, Links, Settings};
+use plc_settings::{ConsoleAt, Links, ModbusClients, Settings};
 use std::alloc::{AllocError, Global};
 use std::convert::AsStr;
 use std::net::SocketAddr;
@@ -158,6 +159,7 @@ pub enum Words<'a> {
         report: Option<&'a str>,
         settings: Settings,
         operators: OperatorsAt<'a>,
+        clients: ModbusClients,
     },
     /// Serves one machine of a group, whose store is in a directory.
     ServeMachine {
@@ -329,6 +331,7 @@ fn served<'a>(
         report: inner.get_str(REPORT),
         settings,
         operators,
+        clients: modbus_clients(alloc, inner)?,
     }))
 }
 

@@ -196,6 +196,10 @@ interrupted; with --scans N it ends after N scans, and prints 'scans N'. Up to 1
 at once; a connection beyond is closed. So is one whose client has no whole request for S seconds, or
 doesn't take its replies within that time. With --stale MS outputs aren't shown that were released
 longer ago, or never: functions 2 and 4 answer exception 4 then.
+With --modbus-allow LIST only those clients are served whose address is in LIST, which has addresses and
+networks of IPv4 with commas between them, as 10.0.0.5,10.1.0.0/16, at most 32; any other connection is
+closed unanswered. Those in the LIST of --modbus-read-only only read: each function that writes answers
+exception 1. So it does to all who come to the port of --read-port, which serves 16 clients more.
 Bits are numbered 0 to 511 (%IXb.n is 8b+n), registers 0 to 63:
   functions 1, 5, 15         read and write the bits of %I
   functions 3, 6, 16         read and write its words
@@ -257,11 +261,15 @@ sends it, ends the session. The questions:
   \"image\"                    tells these bytes, two digits each; 'plc fetch' asks for it
   \"status\"                   tells how many scans there were, how many replicas are normal, and what
                              the last scan was held or stopped by
-Four clients are served at once. For anything but \"status\" one of them takes the console over once a
-command that waits is answered, and whoever had it is told 'plc: taken over'. With --console-key FILE
-each client sends the first line of FILE first, 8 to 128 visible characters, and is told 'done', or a
-second later 'plc: key'; nobody but its owner and its group may read FILE. At a breakpoint all outputs
-stay as they are until the scan goes on.
+  \"values\"                   tells each variable and each field of an instance, and what is forced, as a
+                             line of JSON: all of one scan, outputs as its end would release them
+  {\"watch\":[\"T1.ET\",..]}     tells the same of the locations, variables and fields of these names, or
+                             'plc: unknown name'
+Four clients are served at once. For anything but \"status\", \"values\" and a watch one of them takes the
+console over once a command that waits is answered, and whoever had it is told 'plc: taken over'. With
+--console-key FILE each client sends the first line of FILE first, 8 to 128 visible characters, and is
+told 'done', or a second later 'plc: key'; nobody but its owner and its group may read FILE. At a
+breakpoint all outputs stay as they are until the scan goes on.
 
 The report is one line of JSON, written before 'scans N', beside its file, which it replaces at a good
 end; into a device, a pipe or a link that is there it's written straight:
@@ -470,10 +478,15 @@ GROUP is the same file on each machine, in TOML. Its keys, and what they are whe
   key                        the path of the file of the group's key, from the root; without a key each
                              replica has to be at 127.0.0.1
   insecure = false           true: replicas may be at other addresses without a key
+  modbus_allow               [\"10.0.0.5\", \"10.1.0.0/16\"]: addresses and networks of IPv4, at most 32;
+                             Modbus clients from elsewhere are closed unanswered
+  modbus_read_only           the same of those who only read: each function that writes answers exception 1
   console_key                8 to 128 visible characters that a console asks for first
   console_sockets            a directory: the console of machine I is its socket console-I, at no port
   replica, modbus            of a machine: an address and a port, for the other machines and for Modbus
                              clients
+  modbus_read                the same, for clients who only read, if it's wanted; a machine drives only where
+                             it has it
   console, status            the same, if they're wanted
 Those down to [[machine]] have to be the same at each machine, and stay as long as its store. fresh has to
 be the same; it changes while all are stopped. All others may differ, and change at one machine after the

@@ -15,6 +15,7 @@
 //! the usage lines (rows of `tools/words`). Neither: the texts of help, which say by hand what `docs/FAULTS.md` says.
 #![tactic(auto)]
 
+mod clients;
 mod commands;
 mod console;
 mod error;

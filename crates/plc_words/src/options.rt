@@ -20,6 +20,15 @@ pub(crate) const SCANS: &str = "scans";
 /// The word of the option `--port`.
 pub(crate) const PORT: &str = "port";
 
+/// The word of the option `--read-port`.
+pub(crate) const READ_PORT: &str = "read-port";
+
+/// The word of the option `--modbus-allow`.
+pub(crate) const MODBUS_ALLOW: &str = "modbus-allow";
+
+/// The word of the option `--modbus-read-only`.
+pub(crate) const MODBUS_READ_ONLY: &str = "modbus-read-only";
+
 /// The word of the option `--links`, and its values.
 pub(crate) const LINKS: &str = "links";
 
@@ -119,6 +128,9 @@ const SETTINGS: &[&str] = &[
     CONSOLE_KEY,
     STALE,
     STATUS,
+    MODBUS_ALLOW,
+    MODBUS_READ_ONLY,
+    READ_PORT,
 ];
 
 /// The word of a store's directory.
@@ -384,6 +396,22 @@ pub(crate) fn port() -> Form {
     numbered_port(PORT)
         .default_value("5020")
         .help("The port of 127.0.0.1, 1 to 65535")
+}
+
+/// Who may come to the ports for Modbus clients.
+pub(crate) fn modbus_allow() -> Form {
+    text(MODBUS_ALLOW, "LIST").help(
+        "The addresses and networks of Modbus clients, as 10.0.0.5,10.1.0.0/16; without it, all",
+    )
+}
+
+/// Who of them may only read.
+pub(crate) fn modbus_read_only() -> Form {
+    text(MODBUS_READ_ONLY, "LIST").help("Those of Modbus clients who may only read")
+}
+
+pub(crate) fn read_port() -> Form {
+    numbered_port(READ_PORT).help("A further port for Modbus clients who only read, 1 to 65535")
 }
 
 /// The option is refused where it's given twice, or is none of its two words.

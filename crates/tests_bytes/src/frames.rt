@@ -107,7 +107,7 @@ fn is_read_as_framed(alloc: Global, stream: &[u8]) -> Result<bool, AllocError> {
 }
 
 /// A stream whose byte at a place is `FF`.
-fn replaced_at(alloc: Global, stream: &[u8], place: usize) -> Result<Vec<u8>, AllocError>
+pub fn replaced_at(alloc: Global, stream: &[u8], place: usize) -> Result<Vec<u8>, AllocError>
     requires { place < length stream.now }
 {
     let mut replaced = Vec::from_slice(alloc, stream)?;

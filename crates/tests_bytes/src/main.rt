@@ -1,7 +1,8 @@
 //! Reads files of rows of what only shows inside of the program: frames between replicas, replicas and controllers by
-//! the frames that they take and send, drivers and epochs of machines, cycles of a field. It prints the rows that come
-//! out otherwise, and how many each file has, and ends with the status 1 where one does. `data/README.md` tells how a
-//! row is written. What shows from outside is tried over the program itself (`tools/try-built`). No crate uses it.
+//! the frames that they take and send, drivers and epochs of machines, cycles of a field, keys between machines. It
+//! prints the rows that come out otherwise, and how many each file has, and ends with the status 1 where one does.
+//! `data/README.md` tells how a row is written. What shows from outside is tried over the program itself
+//! (`tools/try-built`). No crate uses it.
 #![tactic(auto)]
 
 mod drivers;
@@ -9,9 +10,11 @@ mod epochs;
 mod fields;
 mod frames;
 mod groups;
+mod keys;
 mod notation;
 mod replicas;
 mod rows;
+mod sealed;
 mod stores;
 
 use rows::Found;

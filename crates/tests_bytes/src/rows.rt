@@ -2,7 +2,7 @@
 //! of the file says whose rows these are.
 
 use crate::notation::{front, lines_of, plain, spread, told, unreadable};
-use crate::{drivers, epochs, fields, frames, groups, replicas};
+use crate::{drivers, epochs, fields, frames, groups, keys, replicas};
 use std::alloc::{AllocError, Global};
 use std::io;
 
@@ -160,7 +160,7 @@ fn check_line(
 /// What a line of a table of this title says.
 fn said_in(alloc: Global, title: &str, said: &str) -> io::Result<String> {
     match title {
-        "byte replaced" => spread(alloc, said),
+        "byte replaced" | "beginning of records" => spread(alloc, said),
         _ => told(alloc, said),
     }
 }
@@ -172,6 +172,7 @@ fn comes_out(alloc: Global, file: &str, title: &str, cell: &str) -> io::Result<S
         "replicas.rows" => groups::table(alloc, title, cell),
         "drivers.rows" => drivers::table(alloc, title, cell),
         "cold_start.rows" => epochs::table(alloc, title, cell),
+        "keys.rows" => keys::table(alloc, title, cell),
         _ => Err(unreadable()),
     }
 }
@@ -184,6 +185,7 @@ fn runs(alloc: Global, given: &Given<'_>, title: &str, body: &str) -> io::Result
         "replicas.rows" | "controllers.rows" | "blocks.rows" => replicas::run(alloc, of, body),
         "drivers.rows" => drivers::run(alloc, of, body),
         "cold_start.rows" => epochs::run(alloc, of, body),
+        "keys.rows" => keys::run(alloc, body),
         _ => Err(unreadable()),
     }
 }

@@ -1,6 +1,7 @@
 //! What the words of a call ask for, as lines.
 
-use plc_settings::Settings;
+use net_addresses::Networks;
+use plc_settings::{ModbusClients, Settings};
 use plc_words::{AskedConsole, Fetching, OperatorsAt, Words, read_words};
 use std::alloc::{AllocError, Global};
 
@@ -24,9 +25,13 @@ fn shown(alloc: Global, words: &Words) -> Result<String, AllocError> {
             report,
             settings,
             operators,
+            clients,
         } => {
             let settings = service(alloc, settings, operators)?;
-            format!(in alloc; "serve {source}, stores {stores:?}, report {report:?}\n{settings}")
+            let clients = guests(alloc, clients)?;
+            format!(in alloc;
+                "serve {source}, stores {stores:?}, report {report:?}\n{settings}{clients}"
+            )
         }
         Words::SimGroup {
             source,
@@ -93,6 +98,30 @@ fn service(
          scans {scans:?}, crash {crash:?}, lost after {lost_after}, stale {stale:?}\n\
          console {console:?}, socket {socket:?}, key {key:?}, status {status:?}"
     )
+}
+
+/// Who may come as a Modbus client, where that's not everybody.
+fn guests(alloc: Global, clients: &ModbusClients) -> Result<String, AllocError> {
+    let allowed = networks(alloc, &clients.clients.allowed)?;
+    let readers = networks(alloc, &clients.clients.readers)?;
+    let reading = clients.reading;
+    if allowed.is_empty() && readers.is_empty() && reading.is_none() {
+        return Ok(String::new(alloc));
+    }
+    format!(in alloc; "\nallowed {allowed}, readers {readers}, reading port {reading:?}")
+}
+
+/// A list of networks.
+fn networks(alloc: Global, list: &Option<Networks>) -> Result<String, AllocError> {
+    let mut text = String::new(alloc);
+    if let Some(list) = list {
+        for network in list.networks.iter() {
+            let (address, prefix) = (network.address, network.prefix);
+            let one = format!(in alloc; "[{address}/{prefix}]")?;
+            text.push_str(one.as_str())?;
+        }
+    }
+    Ok(text)
 }
 
 /// What is sent to a console, and where that is.

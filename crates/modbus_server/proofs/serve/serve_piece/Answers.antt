@@ -12,8 +12,8 @@ returns-then-is_err-clause-served g c =
     let from = c.args.buffers.now.session in
     let piece : List ℕ = c.args.piece.now in
     let requests : List Adu = c.feed-fed.new.out.items in
-    let before : Images = record { told = g.S.Staging.told c.args.staging.now; seen = c.args.outputs.now.released; limit = c.args.outputs.now.limit } in
-    let after : Images = record { told = g.S.Staging.told c.answer_all.new.staging; seen = c.answer_all.new.outputs.released; limit = c.answer_all.new.outputs.limit } in
+    let before : Images = record { told = g.S.Staging.told c.args.staging.now; seen = c.args.outputs.now.released; limit = c.args.outputs.now.limit; access = c.args.outputs.now.access } in
+    let after : Images = record { told = g.S.Staging.told c.answer_all.new.staging; seen = c.answer_all.new.outputs.released; limit = c.answer_all.new.outputs.limit; access = c.answer_all.new.outputs.access } in
     let starts = fed_starts c.feed-fed.result from c.feed-fed.new.self piece c.clear.new.self.items requests c.clear.ensures.items c.requires c.feed-fed.ensures in
     silent_after from piece before after (g.W.CountedWrite.held c.args.writer.now) requests starts
     (err_holds (AnswersSome before requests after) c.answer_all.result (sym c.if-is_err.ensures.value) (rw c.as_slice.ensures.value at c.answer_all.ensures.err))
@@ -27,8 +27,8 @@ returns-then-is_err-2-clause-served g c =
     let out' : List ℕ = c.answer_all.new.out.items in
     let counts : Requests = c.none-counts.result in
     let counts' : Requests = c.answer_all.new.counts in
-    let before : Images = record { told = g.S.Staging.told c.args.staging.now; seen = c.args.outputs.now.released; limit = c.args.outputs.now.limit } in
-    let after : Images = record { told = g.S.Staging.told c.answer_all.new.staging; seen = c.answer_all.new.outputs.released; limit = c.answer_all.new.outputs.limit } in
+    let before : Images = record { told = g.S.Staging.told c.args.staging.now; seen = c.args.outputs.now.released; limit = c.args.outputs.now.limit; access = c.args.outputs.now.access } in
+    let after : Images = record { told = g.S.Staging.told c.answer_all.new.staging; seen = c.answer_all.new.outputs.released; limit = c.answer_all.new.outputs.limit; access = c.answer_all.new.outputs.access } in
     let held = g.W.CountedWrite.held c.args.writer.now in
     let held' = g.W.CountedWrite.held c.write_all.new.writer in
     let starts = fed_starts c.feed-fed.result from c.feed-fed.new.self piece c.clear.new.self.items requests c.clear.ensures.items c.requires c.feed-fed.ensures in

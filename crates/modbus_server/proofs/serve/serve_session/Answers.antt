@@ -5,8 +5,8 @@ use Rattle.modbus_server.proofs.serve.serve_session.Goals as goal
 
 pub returns-in_default : goal.returns-in_default
 returns-in_default g c =
-    let before : Images = record { told = g.S.Staging.told c.args.staging.now; seen = c.args.outputs.now.released; limit = c.args.outputs.now.limit } in
-    let after : Images = record { told = g.S.Staging.told c.loop.staging; seen = c.loop.outputs.released; limit = c.loop.outputs.limit } in
+    let before : Images = record { told = g.S.Staging.told c.args.staging.now; seen = c.args.outputs.now.released; limit = c.args.outputs.now.limit; access = c.args.outputs.now.access } in
+    let after : Images = record { told = g.S.Staging.told c.loop.staging; seen = c.loop.outputs.released; limit = c.loop.outputs.limit; access = c.loop.outputs.access } in
     ends_unread (g.R.CountedRead.left c.args.reader.now) (g.R.CountedRead.left c.loop.reader) (g.R.CountedRead.left c.read.new.self)
     (g.R.CountedRead.faults c.args.reader.now) (g.R.CountedRead.faults c.loop.reader) (g.R.CountedRead.faults c.read.new.self)
     (g.W.CountedWrite.held c.args.writer.now) (g.W.CountedWrite.held c.loop.writer) (g.W.CountedWrite.faults c.args.writer.now) (g.W.CountedWrite.faults c.loop.writer)
@@ -14,9 +14,9 @@ returns-in_default g c =
 
 pub returns-in-Err : goal.returns-in-Err
 returns-in-Err g c =
-    let before : Images = record { told = g.S.Staging.told c.args.staging.now; seen = c.args.outputs.now.released; limit = c.args.outputs.now.limit } in
-    let between : Images = record { told = g.S.Staging.told c.loop.staging; seen = c.loop.outputs.released; limit = c.loop.outputs.limit } in
-    let after : Images = record { told = g.S.Staging.told c.serve_piece.new.staging; seen = c.serve_piece.new.outputs.released; limit = c.serve_piece.new.outputs.limit } in
+    let before : Images = record { told = g.S.Staging.told c.args.staging.now; seen = c.args.outputs.now.released; limit = c.args.outputs.now.limit; access = c.args.outputs.now.access } in
+    let between : Images = record { told = g.S.Staging.told c.loop.staging; seen = c.loop.outputs.released; limit = c.loop.outputs.limit; access = c.loop.outputs.access } in
+    let after : Images = record { told = g.S.Staging.told c.serve_piece.new.staging; seen = c.serve_piece.new.outputs.released; limit = c.serve_piece.new.outputs.limit; access = c.serve_piece.new.outputs.access } in
     ends_with c.know_any_pieces.ensures c.in-Err.end (g.R.CountedRead.left c.args.reader.now) (g.R.CountedRead.left c.loop.reader) (g.R.CountedRead.left c.read.new.self)
     (g.R.CountedRead.faults c.args.reader.now) (g.R.CountedRead.faults c.loop.reader) (g.R.CountedRead.faults c.read.new.self)
     (g.W.CountedWrite.held c.args.writer.now) (g.W.CountedWrite.held c.loop.writer) (g.W.CountedWrite.held c.serve_piece.new.writer)
@@ -25,9 +25,9 @@ returns-in-Err g c =
 
 pub loop-preserved : goal.loop-preserved
 loop-preserved g c =
-    let before : Images = record { told = g.S.Staging.told c.args.staging.now; seen = c.args.outputs.now.released; limit = c.args.outputs.now.limit } in
-    let between : Images = record { told = g.S.Staging.told c.loop.staging; seen = c.loop.outputs.released; limit = c.loop.outputs.limit } in
-    let after : Images = record { told = g.S.Staging.told c.serve_piece.new.staging; seen = c.serve_piece.new.outputs.released; limit = c.serve_piece.new.outputs.limit } in
+    let before : Images = record { told = g.S.Staging.told c.args.staging.now; seen = c.args.outputs.now.released; limit = c.args.outputs.now.limit; access = c.args.outputs.now.access } in
+    let between : Images = record { told = g.S.Staging.told c.loop.staging; seen = c.loop.outputs.released; limit = c.loop.outputs.limit; access = c.loop.outputs.access } in
+    let after : Images = record { told = g.S.Staging.told c.serve_piece.new.staging; seen = c.serve_piece.new.outputs.released; limit = c.serve_piece.new.outputs.limit; access = c.serve_piece.new.outputs.access } in
     goes_further c.know_any_pieces.ensures (g.R.CountedRead.left c.args.reader.now) (g.R.CountedRead.left c.loop.reader) (g.R.CountedRead.left c.read.new.self)
     (g.R.CountedRead.faults c.args.reader.now) (g.R.CountedRead.faults c.loop.reader) (g.R.CountedRead.faults c.read.new.self)
     (g.W.CountedWrite.held c.args.writer.now) (g.W.CountedWrite.held c.loop.writer) (g.W.CountedWrite.held c.serve_piece.new.writer)

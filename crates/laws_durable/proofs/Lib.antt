@@ -1,0 +1,4 @@
+pub mod Settling
+pub mod Lives
+pub mod Moving
+pub mod Steady

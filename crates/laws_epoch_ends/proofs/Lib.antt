@@ -1,0 +1,13 @@
+pub mod Lists
+pub mod Steps
+pub mod Saying
+pub mod Only
+pub mod Nonces
+pub mod Moments
+pub mod Asking
+pub mod Evidence
+pub mod Joining
+pub mod Processes
+pub mod Worked
+pub mod WorkedActs
+pub mod WorkedProcesses

@@ -1,0 +1,7 @@
+pub mod Given
+pub mod Heard
+pub mod Placed
+pub mod Proved
+pub mod Ran
+pub mod Runs
+pub mod Worked

@@ -1,0 +1,11 @@
+use Rattle.std.proofs.Common.{◌≡◌}
+use Rattle.plc_figures.proofs.Numbered.{texts_before}
+use Rattle.plc_figures.specs.Texts.{IsAdded}
+use Rattle.plc_values.specs.Values.{variable_json}
+use Rattle.plc_values.proofs.listing.put_each_variable.Given as goal
+
+abbrev pub invariant-loop-number : goal.invariant-loop-number
+invariant-loop-number l = record {
+  text : IsAdded l.initial.out.items (texts_before (variable_json l.initial.look) l.variables l.number) l.out.items;
+  same : l.look ≡ l.initial.look;
+}

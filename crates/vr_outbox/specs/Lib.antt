@@ -1,0 +1,4 @@
+pub mod Waiting
+pub mod Stages
+pub mod Outboxes
+pub mod Calls
