@@ -1,5 +1,6 @@
 """What machines of a group send to one that isn't real: requests of an operator, words ahead of a cold start, and what
 waits while it stands still."""
+import contextlib
 import os
 import signal
 import socket
@@ -199,15 +200,26 @@ def unread(stream):
 
 
 def answers(stream, nonces, last):
-    """The places of the questions that are answered over a connection, as the answers come, up to that of the last."""
-    found = []
+    """The places of the questions that are answered over a connection, as the answers come, up to that of the last,
+    which comes within so long."""
+    found, end = [], time.monotonic() + PATIENCE
     for message in messages(stream):
         if message[0] in ANSWERS:
             nonce = message[11:19]
             if nonce == last:
                 return found
             found.append(nonces.index(nonce))
+        if time.monotonic() > end:
+            raise TimeoutError('the last question has no answer')
     return found
+
+
+def ask_on(peer, asked):
+    """Sends this each second until its connection ends: its answer may find no room, too, while much waits there."""
+    with contextlib.suppress(OSError):
+        while not peer.is_over:
+            peer.stream.sendall(asked)
+            time.sleep(1)
 
 
 def stands_still(group, still, operator, image):
@@ -219,7 +231,7 @@ def stands_still(group, still, operator, image):
     still.stream.sendall(b''.join(record(asked) for asked, _ in questions))
     right = right and came_true(lambda: unread(still.stream) == 0) and operator.is_answered(4 * [change])
     still.stream.settimeout(PATIENCE)
-    still.stream.sendall(record(last))
+    threading.Thread(target=ask_on, args=(still, record(last)), daemon=True).start()
     nonces = [nonce for _, nonce in questions]
     found = answers(still.stream, nonces, last_nonce)
     if not right or not 4 < len(found) < 79 or found != sorted(set(found)):
