@@ -41,7 +41,7 @@ demo:
 		build/plc run $(IL) $(COMMANDS); \
 	else \
 		echo; echo "-- plc run $(IL) $(COMMANDS), a run that proves nothing: it builds the sources, one to four minutes, each time anew; after make plc it takes a second"; \
-		cd crates/plc && ../../tools/while-silent rt try --data program.il=$(abspath $(IL)) --data commands.json=$(abspath $(COMMANDS)) -- run program.il commands.json; \
+		cd crates/plc && ../../tools/prove/while-silent rt try --data program.il=$(abspath $(IL)) --data commands.json=$(abspath $(COMMANDS)) -- run program.il commands.json; \
 	fi
 
 standby:
@@ -50,7 +50,7 @@ standby:
 		build/plc sim examples/motor.il $(EVENTS); \
 	else \
 		echo "-- plc sim examples/motor.il $(EVENTS), a run that proves nothing: it builds the sources, one to four minutes, each time anew; after make plc it takes a second"; \
-		cd crates/plc && ../../tools/while-silent rt try --data motor.il=$(abspath examples/motor.il) --data events.json=$(abspath $(EVENTS)) -- sim motor.il events.json; \
+		cd crates/plc && ../../tools/prove/while-silent rt try --data motor.il=$(abspath examples/motor.il) --data events.json=$(abspath $(EVENTS)) -- sim motor.il events.json; \
 	fi
 
 serve:
@@ -63,7 +63,7 @@ serve:
 		build/plc serve $(IL) --store "$$(mktemp -d)" --port $(PORT); \
 	else \
 		echo "-- a run of ten minutes that proves nothing: it builds the sources first, one to four minutes, each time anew; after make plc it starts at once"; \
-		cd crates/plc && ../../tools/while-silent --port $(PORT) rt try --seconds 600 --data program.il=$(abspath $(IL)) -- serve program.il --store "$$(mktemp -d)" --port $(PORT); \
+		cd crates/plc && ../../tools/prove/while-silent --port $(PORT) rt try --seconds 600 --data program.il=$(abspath $(IL)) -- serve program.il --store "$$(mktemp -d)" --port $(PORT); \
 	fi
 
 # Of an example or a schedule the stored lines are drawn, which the gate holds the program to; of any other run what build/plc prints.
@@ -76,14 +76,14 @@ picture-run:
 	@mkdir -p build
 	@lines=$(if $(filter command,$(origin IL) $(origin COMMANDS)),,$(COMMANDS:.json=.txt)); if [ ! -e "$$lines" ]; then lines=build/lines.txt; $(BUILT) && build/plc run $(IL) $(COMMANDS) > $$lines || exit 1; fi; \
 	picture=build/$(basename $(notdir $(COMMANDS))).svg; \
-	tools/timeline --svg --il $(IL) $(COMMANDS) $$lines > $$picture && tools/timeline --il $(IL) $(COMMANDS) $$lines && echo "-- the same as a picture: $$picture"
+	tools/user/timeline --svg --il $(IL) $(COMMANDS) $$lines > $$picture && tools/user/timeline --il $(IL) $(COMMANDS) $$lines && echo "-- the same as a picture: $$picture"
 
 picture-schedule: EXAMPLE = motor
 picture-schedule:
 	@mkdir -p build
 	@report=$(if $(filter command,$(origin IL) $(origin EVENTS)),,$(EVENTS:.json=.txt)); if [ ! -e "$$report" ]; then report=build/report.txt; $(BUILT) && build/plc sim $(IL) $(EVENTS) > $$report || exit 1; fi; \
 	picture=build/$(basename $(notdir $(EVENTS))).svg; \
-	tools/sequence $(EVENTS) $$report > $$picture && tools/sequence --text $(EVENTS) && echo "-- the messages of $(EVENTS), as a chart: $$picture"
+	tools/user/sequence $(EVENTS) $$report > $$picture && tools/user/sequence --text $(EVENTS) && echo "-- the messages of $(EVENTS), as a chart: $$picture"
 
 TO ?= build/$@.svg
 
@@ -103,13 +103,13 @@ field:
 	@python3 examples/field/play.py build/plc $(TO) && echo "-- the same as a picture: $(TO)"
 
 plc:
-	tools/make-libraries $(if $(JOBS),--jobs $(JOBS)) plc
+	tools/prove/make-libraries $(if $(JOBS),--jobs $(JOBS)) plc
 	cd crates/plc && rt run -- --version
 	mkdir -p build && cp crates/plc/out/plc build/plc
 	@$(STAMP) > build/plc.stamp
 
 simulate:
-	tools/make-libraries $(if $(JOBS),--jobs $(JOBS)) sim_group
+	tools/prove/make-libraries $(if $(JOBS),--jobs $(JOBS)) sim_group
 	cd crates/sim_group && rt run
 	mkdir -p build && cp crates/sim_group/out/sim_group build/sim_group
 	build/sim_group $(if $(WORDS),$(WORDS),$$(cat crates/sim_group/args))
@@ -128,16 +128,16 @@ install:
 # What is installed, of any program: install, deb and dist do it with the proved one.
 put: PLC ?= build/plc
 put:
-	mkdir -p $(BIN) $(SHARE)/man/man1 $(SHARE)/bash-completion/completions $(SHARE)/plc/examples/console $(SHARE)/plc/examples/field $(SHARE)/plc/examples/machines $(SHARE)/plc/examples/prometheus $(SHARE)/plc/docs/decisions $(SHARE)/plc/docs/pictures $(SHARE)/plc/tools/importing $(UNITS) $(USERS)
+	mkdir -p $(BIN) $(SHARE)/man/man1 $(SHARE)/bash-completion/completions $(SHARE)/plc/examples/console $(SHARE)/plc/examples/field $(SHARE)/plc/examples/machines $(SHARE)/plc/examples/prometheus $(SHARE)/plc/docs/decisions $(SHARE)/plc/docs/pictures $(SHARE)/plc/tools/user/importing $(UNITS) $(USERS)
 	install -m 755 $(PLC) $(BIN)/plc
-	tools/man-page $(PLC) $(SHARE)/man/man1
-	tools/completion $(PLC) > $(SHARE)/bash-completion/completions/plc
+	tools/user/man-page $(PLC) $(SHARE)/man/man1
+	tools/user/completion $(PLC) > $(SHARE)/bash-completion/completions/plc
 	install -m 644 README.md SECURITY.md CHANGELOG.md CONTRIBUTING.md crates.txt $(SHARE)/plc
 	install -m 644 docs/*.md $(SHARE)/plc/docs
 	install -m 644 docs/decisions/*.md $(SHARE)/plc/docs/decisions
 	install -m 644 docs/pictures/*.svg docs/pictures/*.png $(SHARE)/plc/docs/pictures
-	install -m 755 tools/number-lines tools/import $(SHARE)/plc/tools
-	install -m 644 tools/importing/*.py $(SHARE)/plc/tools/importing
+	install -m 755 tools/user/number-lines tools/user/import $(SHARE)/plc/tools/user
+	install -m 644 tools/user/importing/*.py $(SHARE)/plc/tools/user/importing
 	install -m 644 examples/*.* $(SHARE)/plc/examples
 	install -m 644 examples/console/*.* $(SHARE)/plc/examples/console
 	install -m 644 examples/field/*.* $(SHARE)/plc/examples/field
@@ -152,25 +152,25 @@ uninstall:
 
 deb:
 	@$(PROVED)
-	tools/make-deb build/plc
+	tools/user/make-deb build/plc
 
 dist:
 	@$(PROVED)
-	tools/make-deb --tar build/plc
+	tools/user/make-deb --tar build/plc
 
 test:
-	tools/example-rows --check
-	tools/frame-rows --check
-	tools/crates-table
-	tools/audit-lines --check
-	tools/seen-by --check
-	tools/reference --check
-	tools/decisions --check
-	tools/links
-	-@tools/cells
-	tools/gate-times --reckon --check
-	tools/timeline --check
-	tools/sequence --check
-	-@tools/gate-times --difference
+	tools/gate/example-rows --check
+	tools/gate/frame-rows --check
+	tools/gate/crates-table
+	tools/gate/audit-lines --check
+	tools/gate/seen-by --check
+	tools/gate/reference --check
+	tools/gate/decisions --check
+	tools/gate/links
+	-@tools/gate/cells
+	tools/gate/gate-times --reckon --check
+	tools/user/timeline --check
+	tools/user/sequence --check
+	-@tools/gate/gate-times --difference
 	rt ci
-	tools/try-built
+	tools/try/try-built

@@ -1,6 +1,6 @@
 #!/usr/bin/env python3
 """client.py [PORT]: a client of Modbus TCP for `plc serve`, by Python's standard library alone. As a program it starts and stops the
-motor of motor.il at 127.0.0.1 and prints what it sees; `from client import Plc` has it for your own (tools/try-readme runs both), and
+motor of motor.il at 127.0.0.1 and prints what it sees; `from client import Plc` has it for your own (tools/try/try-readme runs both), and
 `Machines` for a group of several machines."""
 import socket
 import struct

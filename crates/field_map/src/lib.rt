@@ -20,8 +20,8 @@
 //! what is gathered of replies has at each place the value that was read for it (`know_each_reading`). So after a cycle
 //! each place has what its device answered for it, or what the fallback of a lost device says (`know_a_cycle`).
 //!
-//! By its code alone, and shown by rows (`fields.rows` of `tools/words`): which key says what, and that a fault is told
-//! by its own.
+//! By its code alone, and shown by rows (`fields.rows` of `tools/try/words`): which key says what, and that a fault is
+//! told by its own.
 #![tactic(auto)]
 
 mod device;

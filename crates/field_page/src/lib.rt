@@ -14,8 +14,8 @@
 //! `specs/State`, `specs/Page`); what a request is answered is a function of its method, its path, its host and of what
 //! was read (`specs/Sites`, `specs/Answers`).
 //!
-//! By its code alone, and tried with `tools/try-field`: the service at its port, and that a page shows what was shown
-//! last.
+//! By its code alone, and tried with `tools/try/try-field`: the service at its port, and that a page shows what was
+//! shown last.
 #![tactic(auto)]
 
 mod answer;

@@ -12,8 +12,8 @@
 //! It answers Device only where the writer failed in that call, and then a prefix of the listing went out. It takes
 //! no memory. That a listing is read as the same program is the law of `laws_listing`.
 //!
-//! Tests (nothing rests on them alone): `images.rows` of `tests_rows` has listings, `files.rows` of `tools/words` an
-//! output that fails in the middle.
+//! Tests (nothing rests on them alone): `images.rows` of `tests_rows` has listings, `files.rows` of `tools/try/words`
+//! an output that fails in the middle.
 #![tactic(auto)]
 
 mod declaration;

@@ -14,7 +14,7 @@
 //! took; where none may be submitted, or memory runs out, no sample is taken. A release has the number of the request
 //! that waited, and the image of the first REPLY to it.
 //!
-//! Tests: served controllers scan by it (`tools/try-serve`). Nothing rests on them alone.
+//! Tests: served controllers scan by it (`tools/try/try-serve`). Nothing rests on them alone.
 #![tactic(auto)]
 
 mod driver;

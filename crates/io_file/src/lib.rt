@@ -7,8 +7,8 @@
 //! file.write_all(bytes)?; // it's made, or emptied if it was there
 //! ```
 //!
-//! Only tested: that the file is made at its first write (`tools/try-serve`); proved is that each call returns and is
-//! safe.
+//! Only tested: that the file is made at its first write (`tools/try/try-serve`); proved is that each call returns and
+//! is safe.
 #![tactic(auto)]
 
 mod new_file;

@@ -20,8 +20,8 @@
 //! that is called for two instances, and a meter's with a function, a VAR_IN_OUT and a return. That the program of a
 //! text of units has the lines of its expansion for instructions is `laws_meaning`'s.
 //!
-//! Tests (nothing rests on them alone): `units.rows` of `tests_rows` runs such programs, and `tools/units` holds four
-//! more against an evaluator that calls.
+//! Tests (nothing rests on them alone): `units.rows` of `tests_rows` runs such programs, and `tools/try/units` holds
+//! four more against an evaluator that calls.
 #![tactic(auto)]
 
 ghost use Rattle.laws_calls.specs.Laws.{ACallIsACall, AFaultlessUnitIsPlain};

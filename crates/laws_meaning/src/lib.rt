@@ -20,8 +20,8 @@
 //! their types, first values and whether they are retained are as `il_units` defines them (`specs/Flats`). And of a run
 //! that comes to no end only this is said, that neither does.
 //!
-//! Tests (nothing rests on them alone): `units.rows` of `tests_rows` runs such programs, and `tools/units` holds four
-//! more against an evaluator that calls.
+//! Tests (nothing rests on them alone): `units.rows` of `tests_rows` runs such programs, and `tools/try/units` holds
+//! four more against an evaluator that calls.
 #![tactic(auto)]
 
 ghost use Rattle.laws_meaning.specs.Laws.{SaysItsInstructions, MeansItsCalls};

@@ -12,7 +12,7 @@
 //! here (`checks_address_first`, `echoes_every_request`). Who may only read gets exception 1 to each function that writes,
 //! and else what everybody gets (`read_reply`, which is handed no staging); by `permitted_reply` nothing of him is staged.
 //!
-//! Tests (nothing rests on them alone): `modbus.rows` of `tools/serving`.
+//! Tests (nothing rests on them alone): `modbus.rows` of `tools/try/serving`.
 #![tactic(auto)]
 
 mod permitted;

@@ -41,8 +41,8 @@
 //! By its code alone: that each session is asked what its client may do, and that what is counted of a piece is added to the traffic once its replies went out.
 //!
 //! Shown by tests: that a reply doesn't wait for the next request, and that the read for it enters anew (`modbus.rows`
-//! of `tools/serving`, with sessions that are cut anywhere); the service (`tools/try-serve`); that
-//! clients of others are content (`tools/try-clients`).
+//! of `tools/try/serving`, with sessions that are cut anywhere); the service (`tools/try/try-serve`); that
+//! clients of others are content (`tools/try/try-clients`).
 #![tactic(auto)]
 
 mod counting;

@@ -22,7 +22,7 @@
 //! `specs/Replies` and `specs/Packing`. A request is read as what was written (`requests_are_read_back`), a reply to a
 //! request, too (`replies_are_read_back`); a stream has the same units however it is cut (`know_any_pieces`).
 //!
-//! Shown by tests: the examples of the specification, byte by byte (`modbus.rows` of `tools/serving`).
+//! Shown by tests: the examples of the specification, byte by byte (`modbus.rows` of `tools/try/serving`).
 #![tactic(auto)]
 
 mod adu;

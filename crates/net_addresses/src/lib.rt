@@ -16,7 +16,7 @@
 //! (`specs/Texts`, over std's reader of addresses). A list of texts is refused for the first of them that is, by its
 //! place, or behind 32.
 //!
-//! Tests (nothing rests on them alone): rows of `tools/words`.
+//! Tests (nothing rests on them alone): rows of `tools/try/words`.
 #![tactic(auto)]
 
 mod clients;

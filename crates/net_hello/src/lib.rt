@@ -24,7 +24,7 @@
 //! hasn't told the same group (`answer_to`). The identity is the SHA-256 of bytes that are different for different terms
 //! (`terms_are_told`).
 //!
-//! `tools/try-serve` tries hellos, whole and cut, and how they are judged.
+//! `tools/try/try-serve` tries hellos, whole and cut, and how they are judged.
 //! That no two groups have one SHA-256 is a premise, and nothing here is authentic or secret.
 #![tactic(auto)]
 

@@ -19,7 +19,7 @@
 //! Tested (`link_rows` of `tests_parts`): that messages come in order, that a link is closed where it's cut and once
 //! all others are, and made anew, that a connection which is over is made anew while the link at neither end is cut,
 //! that a message without a frame is counted, that a stranger who was faster is refused; and that crashes leave no
-//! descriptor (`tools/try-serve`).
+//! descriptor (`tools/try/try-serve`).
 //! In no clause: that a socket delivers, what a poll reports, that a send doesn't wait, that a receive reads no more
 //! than 1 MiB of one connection.
 #![tactic(auto)]

@@ -35,10 +35,10 @@
 //! just this connection, and what opens the records behind it is of that connection and that place (`specs/Proved`).
 //! Each call is safe and returns, but for the wait of a poll or a lock.
 //!
-//! Tested (`tools/try-serve`): each refusal, that it's answered and told at both ends, that a higher start replaces an
-//! older one, hello, record and visit however they are cut, strangers that are let go, a partition that heals, a party
-//! that stands still. By its code alone: that the hello by which a link judges others' is its own; that a party is
-//! forgotten only once it's connected; that a party which isn't connected has no `Outbox`, since only an open
+//! Tested (`tools/try/try-serve`): each refusal, that it's answered and told at both ends, that a higher start replaces
+//! an older one, hello, record and visit however they are cut, strangers that are let go, a partition that heals, a
+//! party that stands still. By its code alone: that the hello by which a link judges others' is its own; that a party
+//! is forgotten only once it's connected; that a party which isn't connected has no `Outbox`, since only an open
 //! connection has one; that where there's a key nothing is heard without it, and that a stranger is told nothing but a
 //! challenge; that a wrong sum ends its connection. In no clause: that a socket delivers, what a poll reports, that a
 //! send doesn't wait, that what is handed to the exchange is given to its party. Nothing is secret, and without a key

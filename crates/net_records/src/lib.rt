@@ -18,7 +18,7 @@
 //! changes neither, and is put between two records. Of a prefix of a stream a prefix of its bodies is given
 //! (`know_records`).
 //!
-//! `tools/try-serve` tries streams of records, however they are cut.
+//! `tools/try/try-serve` tries streams of records, however they are cut.
 #![tactic(auto)]
 
 mod incoming;

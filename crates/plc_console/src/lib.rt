@@ -35,7 +35,7 @@
 //!
 //! Only tested: how answers to questions are spelled, that a request is sent again when a period went by, and the
 //! service: what is answered without the desk, that a key comes first, who takes the desk over, with a group behind it
-//! that loses its primary (`tools/try-serve`). Nothing says that an answer comes.
+//! that loses its primary (`tools/try/try-serve`). Nothing says that an answer comes.
 #![tactic(auto)]
 
 mod asking;

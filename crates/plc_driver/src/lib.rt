@@ -20,7 +20,7 @@
 //! `PatientStore` of vr_threads.
 //!
 //! Only tested: that the replicas of a group scan, crash and come back, and what clients see of it
-//! (`tools/try-serve`). Nothing says when a scan comes, or that one does.
+//! (`tools/try/try-serve`). Nothing says when a scan comes, or that one does.
 #![tactic(auto)]
 
 mod crashes;

@@ -37,8 +37,8 @@
 //! never entered again (`no_store_goes_back`). A machine that is frozen stays so, and doesn't recover, until it
 //! recovers anew under a nonce that it never used, or leaves its epoch (`who_is_frozen_stays_so`).
 //!
-//! That the protocol keeps what it promises is no theorem here: `tools/check-cold-start` looks at all states of a model
-//! of it, within bounds. Rows of `tests_bytes` have who says what in which order.
+//! That the protocol keeps what it promises is no theorem here: `tools/prove/check-cold-start` looks at all states of a
+//! model of it, within bounds. Rows of `tests_bytes` have who says what in which order.
 #![tactic(auto)]
 
 mod cold_start;

@@ -11,7 +11,7 @@
 //!
 //! Nobody is to wait for who reads `err`: it's to be a writer that never waits, as `io_relay` has one.
 //!
-//! Proved: that it's safe, and waits in the poll alone. Tested by `tools/try-field`: devices and
+//! Proved: that it's safe, and waits in the poll alone. Tested by `tools/try/try-field`: devices and
 //! controllers that fail in each way.
 #![tactic(auto)]
 

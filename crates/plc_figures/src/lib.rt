@@ -12,7 +12,7 @@
 //! Proved: each text is the definition's of what shows, each replica under its own number and each point's value beside
 //! its own name, and nothing else (`specs/Metrics`, `specs/State`).
 //!
-//! Tests: `page.rows` of `tools/serving` have both texts, of controllers that go on, and of one that stopped.
+//! Tests: `page.rows` of `tools/try/serving` have both texts, of controllers that go on, and of one that stopped.
 #![tactic(auto)]
 
 mod json;

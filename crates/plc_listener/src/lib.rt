@@ -20,10 +20,10 @@
 //!
 //! Who may come is decided by `net_addresses`: `Clients::admits`, with its clause.
 //!
-//! By its code alone, and tested through what is served (`tools/try-serve`): that it's asked of the address which the
-//! connection has, that a connection that may come gets a place that is free, or is closed unanswered or takes over the
-//! first one, that a session ends whose client is idle, sends a request too slowly or doesn't take its replies, and that
-//! `close` ends each session and each thread, and gives back each of the sessions.
+//! By its code alone, and tested through what is served (`tools/try/try-serve`): that it's asked of the address which
+//! the connection has, that a connection that may come gets a place that is free, or is closed unanswered or takes over
+//! the first one, that a session ends whose client is idle, sends a request too slowly or doesn't take its replies, and
+//! that `close` ends each session and each thread, and gives back each of the sessions.
 #![tactic(auto)]
 
 mod connection;

@@ -27,8 +27,8 @@
 //! wanted and that a replica hangs are told exactly where that turned (`Majority`, `by_hand_notice`, `hang_notice`). By
 //! its type: a store gets a later epoch only from the end of a life (`Left`).
 //!
-//! By its code alone, and tested (`tools/try-machines`): that what the node of a machine says is done before it's asked
-//! again, that it's told what the replica shows, and that each message that comes reaches it; how threads, locks,
+//! By its code alone, and tested (`tools/try/try-machines`): that what the node of a machine says is done before it's
+//! asked again, that it's told what the replica shows, and that each message that comes reaches it; how threads, locks,
 //! sockets and times are joined, so that the time of a clause is the present one and the inputs of a scan are one
 //! sample of the stage; that a held link asks `let_through`; that a machine which stopped while it began an epoch
 //! starts there as new, and had said nothing; that the scan which a node is shown is the last one that its replica's

@@ -10,7 +10,7 @@
 //! Proved: it ends well only after as many scans as are asked for, and with the line of a port on `err`, those of what
 //! changed, and nothing else; where it fails, with at most those.
 //!
-//! Tested: how threads, channels, sockets and locks are joined (`tools/try-serve`).
+//! Tested: how threads, channels, sockets and locks are joined (`tools/try/try-serve`).
 #![tactic(auto)]
 
 mod node;

@@ -16,8 +16,8 @@
 //! instance hands over there (`specs/Outputs`); the last 200 lines that were told are kept (`specs/Sources`). What goes
 //! out over a connection answers the requests that came in, in order (`http_server` of the kit).
 //!
-//! Tests: `page.rows` of `tools/serving` have what requests are answered. By its code alone, and tried with curl,
-//! promtool and a browser (`tools/try-page`): the service at its port, and what is read when.
+//! Tests: `page.rows` of `tools/try/serving` have what requests are answered. By its code alone, and tried with curl,
+//! promtool and a browser (`tools/try/try-page`): the service at its port, and what is read when.
 #![tactic(auto)]
 
 mod answer;

@@ -16,7 +16,7 @@
 //! failed (`specs/Serving`).
 //!
 //! Only tested: how threads, channels, sockets and locks are joined, and what a client sees of it
-//! (`tools/try-serve`, `tools/try-clients`).
+//! (`tools/try/try-serve`, `tools/try/try-clients`).
 #![tactic(auto)]
 
 mod failing;

@@ -15,8 +15,8 @@
 //! Proved: what was left is taken only by who wished for one before it was begun (`take`). Commands behind which the
 //! number of forces isn't looked at anew leave what is forced as it was, whatever the controller is (`forces_stay`).
 //!
-//! By its code alone, and tried by `tools/try-serve`: that a snapshot is left soon where one is wanted, and that all
-//! other commands are seen, so that the number of forces is right behind each of them.
+//! By its code alone, and tried by `tools/try/try-serve`: that a snapshot is left soon where one is wanted, and that
+//! all other commands are seen, so that the number of forces is right behind each of them.
 #![tactic(auto)]
 
 mod board;

@@ -15,8 +15,8 @@
 //!
 //! By the code of io_board alone: that what a reader reads is what the writer published, and never half of two.
 //!
-//! Only tested: that what was put is printed at once (`tools/try-serve`), and what shows of a group that runs (there,
-//! too).
+//! Only tested: that what was put is printed at once (`tools/try/try-serve`), and what shows of a group that runs
+//! (there, too).
 #![tactic(auto)]
 
 mod deed;

@@ -22,8 +22,8 @@
 //! fault that is told, and nothing else was written; 2 only with a prefix of it, and a device is told only where a
 //! writer failed. Of a text of units `run` tells each position with its place, unless a command is a change.
 //!
-//! Tests (nothing rests on them alone): rows of `tests_rows` have every printed line, and `files.rows` of `tools/words`
-//! has streams that fail.
+//! Tests (nothing rests on them alone): rows of `tests_rows` have every printed line, and `files.rows` of
+//! `tools/try/words` has streams that fail.
 #![tactic(auto)]
 
 mod answering;

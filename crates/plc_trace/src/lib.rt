@@ -13,7 +13,7 @@
 //! written are the lines of what was put, in order and each once, until the file fails, and each line is that of
 //! `specs/Tracing`.
 //!
-//! By its code alone, and tested (`tools/try-machines`): that what was put is written at once, and that a file that
+//! By its code alone, and tested (`tools/try/try-machines`): that what was put is written at once, and that a file that
 //! fails is told.
 #![tactic(auto)]
 

@@ -14,8 +14,8 @@
 //!
 //! By its code alone: that a snapshot which a controller left is told, where there is memory.
 //!
-//! Tested: `page.rows` of `tools/serving` has the text of a controller with an instance, and of one of which inputs and
-//! outputs are forced; a console is asked for both texts (`tools/try-serve`).
+//! Tested: `page.rows` of `tools/try/serving` has the text of a controller with an instance, and of one of which inputs
+//! and outputs are forced; a console is asked for both texts (`tools/try/try-serve`).
 #![tactic(auto)]
 
 mod entry;

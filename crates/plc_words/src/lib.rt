@@ -12,7 +12,8 @@
 //! which form.
 //!
 //! Only tested: the forms with their options and defaults (`words.rows` of `tests_rows`), and words that are refused and
-//! the usage lines (rows of `tools/words`). Neither: the texts of help, which say by hand what `docs/FAULTS.md` says.
+//! the usage lines (rows of `tools/try/words`). Neither: the texts of help, which say by hand what `docs/FAULTS.md`
+//! says.
 #![tactic(auto)]
 
 mod clients;

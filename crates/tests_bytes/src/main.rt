@@ -2,7 +2,7 @@
 //! the frames that they take and send, drivers and epochs of machines, cycles of a field, keys between machines. It
 //! prints the rows that come out otherwise, and how many each file has, and ends with the status 1 where one does.
 //! `data/README.md` tells how a row is written. What shows from outside is tried over the program itself
-//! (`tools/try-built`). No crate uses it.
+//! (`tools/try/try-built`). No crate uses it.
 #![tactic(auto)]
 
 mod drivers;

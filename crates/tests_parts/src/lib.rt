@@ -4,8 +4,8 @@
 //! is handed to a function with one loop, and what it makes is made and dropped in that function. The crate has tests
 //! alone, uses the crates of those parts, and no crate uses it. Bytes, controllers and replicas are rows of
 //! `tests_bytes`, what the program prints are rows of `tests_rows`, what a call of it does with its words, files and
-//! streams are rows of `tools/words`, and what a served controller or a machine of a group does is tried by
-//! `tools/try-serve` and `tools/try-machines`.
+//! streams are rows of `tools/try/words`, and what a served controller or a machine of a group does is tried by
+//! `tools/try/try-serve` and `tools/try/try-machines`.
 #![tactic(auto)]
 
 #[cfg(test)]

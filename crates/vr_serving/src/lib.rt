@@ -14,7 +14,7 @@
 //! `laws_threads`.
 //!
 //! No contract says what a gate looks at, unless its `has_seen` does, or that a timer is told of what is heard
-//! (`tools/try-serve`: a group whose machines are all there keeps its primary).
+//! (`tools/try/try-serve`: a group whose machines are all there keeps its primary).
 #![tactic(auto)]
 
 mod observer;

@@ -22,9 +22,10 @@
 //! while fewer than f are near, but of a primary. How the steps of a group come to one history is said in
 //! `laws_threads`.
 //!
-//! Only tested (`tools/try-serve`): that replicas run at once, that a group over channels answers, also while a replica
-//! crashes, that nobody waits for a disk that hangs, what a start makes of real files, and that a file that was taken
-//! away is put back. No contract says that a channel hands out what was sent, or that a disk keeps what was flushed.
+//! Only tested (`tools/try/try-serve`): that replicas run at once, that a group over channels answers, also while a
+//! replica crashes, that nobody waits for a disk that hangs, what a start makes of real files, and that a file that was
+//! taken away is put back. No contract says that a channel hands out what was sent, or that a disk keeps what was
+//! flushed.
 #![tactic(auto)]
 
 mod channels;

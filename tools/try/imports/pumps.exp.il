@@ -1,0 +1,91 @@
+(* From pumps.exp, by tools/user/import. *)
+
+FUNCTION_BLOCK SAMPLE
+  VAR CONSTANT
+    FULL : REAL := 27648.0;
+  END_VAR
+  VAR_IN_OUT
+    LEVEL : REAL;
+  END_VAR
+
+  LD      %IW0
+  INT_TO_REAL
+  DIV     FULL
+  ST      LEVEL                   (* 0.0 to 1.0 *)
+END_FUNCTION_BLOCK
+
+FUNCTION_BLOCK STARTER
+  VAR_INPUT
+    ON : BOOL;
+  END_VAR
+  VAR_OUTPUT
+    RUN : BOOL;
+  END_VAR
+  VAR
+    BEGUN : R_TRIG;
+  END_VAR
+  VAR_IN_OUT
+    STARTS : INT;
+  END_VAR
+
+  LD      ON
+  ANDN    %IX8.1
+  ST      RUN
+  CAL     BEGUN(CLK := RUN)
+  LD      BEGUN.Q
+  RETCN
+  LD      STARTS
+  ADD     1
+  ST      STARTS
+END_FUNCTION_BLOCK
+
+FUNCTION_BLOCK PUMPING
+  VAR_INPUT
+    AUTO : BOOL;
+  END_VAR
+  VAR
+    FIRST : STARTER;
+    SECOND : STARTER;
+  END_VAR
+  VAR_IN_OUT
+    LEVEL : REAL;
+    STARTS : INT;
+  END_VAR
+
+  LD      LEVEL
+  GT      0.5
+  AND     AUTO
+  ST      FIRST.ON
+  CAL     FIRST(STARTS := STARTS)
+  LD      LEVEL
+  GT      0.8
+  AND     AUTO
+  ST      SECOND.ON
+  CAL     SECOND(STARTS := STARTS)
+  LD      FIRST.RUN
+  ST      %QX8.0
+  LD      SECOND.RUN
+  ST      %QX8.1
+  LD      STARTS
+  ST      %QW0
+END_FUNCTION_BLOCK
+
+PROGRAM PLC_PRG
+  VAR
+    SAMPLE_1 : SAMPLE;
+    PUMPING_1 : PUMPING;
+    LEVEL : REAL;
+    HALT AT %IX8.1 : BOOL;
+  END_VAR
+  VAR RETAIN
+    STARTS : INT := 10;
+  END_VAR
+  VAR
+    PUMP_1 AT %QX8.0 : BOOL;
+    PUMP_2 AT %QX8.1 : BOOL;
+    SHOWN AT %QW0 : INT;
+  END_VAR
+
+  CAL     SAMPLE_1(LEVEL := LEVEL)
+  CAL     PUMPING_1(AUTO := %IX8.0, LEVEL := LEVEL, STARTS := STARTS)
+END_PROGRAM
