@@ -1,4 +1,4 @@
 pub mod Texts
 pub mod Alike
-pub mod Openings
+pub mod Heard
 pub mod Readings

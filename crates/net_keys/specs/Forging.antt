@@ -1,5 +1,5 @@
 -- What sums promise of a connection between two machines, as long as nobody makes one without their key.
-use Rattle.std.specs.Prelude.{◌≡◌, ℕ, ◌+◌, ◌^◌, ◌<◌, ◌≤◌, ◌⊎◌, List, [], ◌∷◌, ◌++◌, length, map, take, Contains}
+use Rattle.std.specs.Prelude.{◌≡◌, ℕ, ◌+◌, ◌^◌, ◌<◌, ◌≤◌, ◌⊎◌, List, [], ◌∷◌, ◌++◌, length, map, take, Contains, Some, slice_get}
 use Rattle.std.specs.List.{AllByRecursion, flat_map}
 use Rattle.net_keys.specs.Hmac.{hmac}
 use Rattle.net_keys.specs.Challenges.{FitsChallenge}
@@ -50,13 +50,6 @@ abbrev pub IsForged : List ℕ → List (List ℕ × List ℕ) → List ℕ → 
 IsForged pair summed terms text sum = (sum ≡ take 16 (hmac (hmac pair terms) text))
     × (Contains summed (terms, text) → ⊥)
 
--- some sum was
-pub record AnyForged (pair : List ℕ) (summed : List (List ℕ × List ℕ)) : Type 0 where
-  pub terms : List ℕ
-  pub text : List ℕ
-  pub sum : List ℕ
-  pub forged : IsForged pair summed terms text sum
-
 -- ---- what is opened
 
 -- bodies that were opened one after the other, from this number on, each with its sum
@@ -74,12 +67,24 @@ abbrev pub IsSealedThere : List Sealed → Challenge → Challenge → Side → 
 IsSealedThere all dialler listener side bodies = (s : Sealed) → Contains all s → s.dialler ≡ dialler
     → s.listener ≡ listener → s.side ≡ side → s.bodies ≡ bodies
 
+-- Of the records that were opened over a connection, as sealed by this end, the one at this place was made by somebody
+-- who hasn't the key of its two machines: its sum is right, and of all that whoever has the key has sealed nothing has
+-- that text.
+pub record HasForged (pair : List ℕ) (all : List Sealed) (dialler listener : Challenge) (side : Side)
+    (opened : List (List ℕ × List ℕ)) : Type 0 where
+  pub place : ℕ
+  pub body : List ℕ
+  pub sum : List ℕ
+  pub there : slice_get opened place ≡ Some (body, sum)
+  pub forged : IsForged pair (all_summed all) (terms_of dialler listener) (text_of side place body) sum
+
 -- Of all that was sealed by whoever has the key of two machines: what is opened over a connection, as sealed by this
--- end, is a prefix of what that end sealed there, in order; or a sum was forged.
-abbrev pub OnlySealedIsOpened : Type 0
-OnlySealedIsOpened =
+-- end, is a prefix of what that end sealed there, in order; or one of these records was forged.
+abbrev pub OnlySealedIsHeard : Type 0
+OnlySealedIsHeard =
     (pair : List ℕ) (all : List Sealed) (dialler listener : Challenge) (side : Side) (bodies : List (List ℕ))
     (opened : List (List ℕ × List ℕ))
     → AllByRecursion FitsSealed all → FitsChallenge dialler → FitsChallenge listener → length opened ≤ 2 ^ 64
     → IsSealedThere all dialler listener side bodies → AreOpened (connection_key pair dialler listener) side 0 opened
-    → ((later : List (List ℕ)) × (bodies ≡ bodies_of opened ++ later)) ⊎ AnyForged pair (all_summed all)
+    → ((later : List (List ℕ)) × (bodies ≡ bodies_of opened ++ later))
+    ⊎ HasForged pair all dialler listener side opened

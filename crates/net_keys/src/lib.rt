@@ -23,8 +23,8 @@
 //! name of the key, and both nonces. It's of the end that seals, the record's number and its body (`specs/Sealing`). A
 //! connection is met only where the other end's first sum is right for just these challenges, and else refused for the
 //! first reason (`specs/Meeting`). Other records have other texts, before they are summed (`texts_are_told`). What an
-//! end opened is a prefix of what was sealed at the other end of the same connection, or nobody with the key summed
-//! some text (`only_sealed_is_opened`). As that is always so of some text, the law that counts is in `laws_keys`.
+//! end opened is a prefix of what was sealed at the other end of the same connection, in order, or one of these records
+//! was forged: its sum is right, and nobody who has the key sealed it (`only_sealed_is_heard`; `specs/Forging`).
 //!
 //! A connection hashes the two blocks of its key once (`SumKey`): so a short record costs two blocks of SHA-256, and not
 //! four.
@@ -48,6 +48,6 @@ pub use challenge::{CHALLENGE, Challenge, ChallengeFault};
 pub use hmac::Hmac;
 pub use key::{Key, KeyFault};
 pub use keys::Keys;
-pub use laws::{only_sealed_is_opened, texts_are_told};
+pub use laws::{only_sealed_is_heard, texts_are_told};
 pub use meeting::{Answered, Dialled, Ends};
 pub use sealing::{Opener, RecordFault, SUM, Sealer, Side};

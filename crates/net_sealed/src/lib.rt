@@ -15,8 +15,9 @@
 //!
 //! Proved: bytes are given only of a body that was opened under the next number, with the sum that stood behind it
 //! (`specs/Coming`), and a record that isn't so, or is longer than any that is sealed, ends the connection for good.
-//! What is taken is sealed under the next number, and its bytes wait until they are written (`specs/Going`). What
-//! follows for whole connections is in `laws_keys` (`only_sealed_is_heard`).
+//! What is taken is sealed under the next number, and its bytes wait until they are written (`specs/Going`). Of a whole
+//! connection it follows that only what was sealed is opened, or a record was forged (`only_sealed_is_heard` of
+//! `net_keys`); what that means of messages is in `laws_keys`.
 #![tactic(auto)]
 
 mod incoming;

@@ -1,6 +1,6 @@
--- What is opened was sealed, or a sum was forged.
+-- What was opened over a connection was sealed there, or one of these records was forged.
 use Rattle.std.proofs.Common.{◌≡◌, ℕ, zero, suc, ◌+◌, ◌^◌, ◌<◌, ◌≤◌, ◌⊎◌, inl, inr, List, [], ◌∷◌, ◌++◌, length, map, drop, Bool, true, false, refl, sym, ap, ap₂, subst, ◌∙◌, arith}
-use Rattle.std.specs.Prelude.{Contains, bytes_eq}
+use Rattle.std.specs.Prelude.{Contains, Some, bytes_eq, slice_get}
 use Rattle.std.specs.Bool.{Decides}
 use Rattle.std.specs.List.{AllByRecursion}
 use Rattle.std.proofs.lemmas.List.{drop-drop}
@@ -9,7 +9,7 @@ use Rattle.std.proofs.lemmas.Slice.Eq.{bytes_eq-Decides}
 use Rattle.net_keys.specs.Challenges.{FitsChallenge}
 use Rattle.net_keys.specs.Sealing.{text_of}
 use Rattle.net_keys.specs.Meeting.{connection_key, terms_of}
-use Rattle.net_keys.specs.Forging.{AnyForged, AreOpened, FitsSealed, IsSealedThere, OnlySealedIsOpened, Sealed, all_summed, bodies_of, summed_by, texts_from}
+use Rattle.net_keys.specs.Forging.{AreOpened, FitsSealed, HasForged, IsForged, IsSealedThere, OnlySealedIsHeard, Sealed, all_summed, bodies_of, summed_by, texts_from}
 use Rattle.net_keys.specs.declared.challenge.Challenge.{Challenge}
 use Rattle.net_keys.specs.declared.sealing.Side.{Side}
 use Rattle.net_keys.proofs.Texts.{record_told, connection_told}
@@ -131,19 +131,62 @@ sealed_there all dialler listener side bodies number body place there lt from =
     let here : at.place ≡ number = omega (arith, at.number_is) in
     record { rest = at.at.rest; is = ap₂ (λ (n : ℕ) (l : List (List ℕ)). drop n l) (sym here) (sym same) ∙ at.at.is }
 
-opened_from : (pair : List ℕ) (all : List Sealed) (dialler listener : Challenge) (side : Side) (bodies : List (List ℕ)) (number : ℕ) (opened : List Pair) → Place all dialler listener → IsSealedThere all dialler listener side bodies → number + length opened ≤ 2 ^ 64 → AreOpened (connection_key pair dialler listener) side number opened → ((later : List (List ℕ)) × (drop number bodies ≡ bodies_of opened ++ later)) ⊎ AnyForged pair (all_summed all)
-opened_from pair all dialler listener side bodies number [] place there fits are = inl (drop number bodies, refl)
-opened_from pair all dialler listener side bodies number ((body, sum) ∷ rest) place there fits are =
-    elim (has_or_not (all_summed all) (terms_of dialler listener, text_of side number body)) [
-      | inr none ↦ inr (record { terms = terms_of dialler listener; text = text_of side number body; sum = sum; forged = (are.0, none) })
-      | inl has ↦ elim (opened_from pair all dialler listener side bodies (number + 1) rest place there (omega arith) are.1) [
-        | inr forged ↦ inr forged
-        | inl next ↦
-            let at = sealed_there all dialler listener side bodies number body place there (omega arith) (source all (terms_of dialler listener, text_of side number body) has) in
-            inl (next.0, one_more bodies number body at.rest (bodies_of rest) next.0 at.is next.1)
-      ]
-    ]
+module _ (pair : List ℕ) (all : List Sealed) (dialler listener : Challenge) (side : Side) where
+  abbrev IsForgedAt : ℕ → List ℕ → List ℕ → Type 0
+  IsForgedAt number body sum = IsForged pair (all_summed all) (terms_of dialler listener) (text_of side number body) sum
 
-pub only_sealed_is_opened : OnlySealedIsOpened
-only_sealed_is_opened pair all dialler listener side bodies opened each fits fits' count there are =
-    opened_from pair all dialler listener side bodies 0 opened (record { all_fit = each; dialler_fits = fits; listener_fits = fits' }) there (omega arith) are
+  -- of the records from this number on, the one so many places further was forged
+  record ForgedFrom (number : ℕ) (opened : List Pair) : Type 0 where
+    place : ℕ
+    body : List ℕ
+    sum : List ℕ
+    there : slice_get opened place ≡ Some (body, sum)
+    forged : IsForgedAt (number + place) body sum
+
+  forged_now : (number : ℕ) (body sum : List ℕ) (rest : List Pair) → IsForgedAt number body sum → ForgedFrom number ((body, sum) ∷ rest)
+  forged_now number body sum rest is =
+      let same : number ≡ number + 0 = omega arith in
+      record { place = 0; body = body; sum = sum; there = refl; forged = subst (λ (n : ℕ). IsForgedAt n body sum) same is }
+
+  forged_later : (number : ℕ) (first : Pair) (opened : List Pair) → ForgedFrom (number + 1) opened → ForgedFrom number (first ∷ opened)
+  forged_later number first opened f =
+      let same : number + 1 + f.place ≡ number + suc f.place = omega arith in
+      record {
+        place = suc f.place;
+        body = f.body;
+        sum = f.sum;
+        there = f.there;
+        forged = subst (λ (n : ℕ). IsForgedAt n f.body f.sum) same f.forged;
+      }
+
+  forged_there : (opened : List Pair) → ForgedFrom 0 opened → HasForged pair all dialler listener side opened
+  forged_there opened f =
+      let same : 0 + f.place ≡ f.place = omega arith in
+      record {
+        place = f.place;
+        body = f.body;
+        sum = f.sum;
+        there = f.there;
+        forged = subst (λ (n : ℕ). IsForgedAt n f.body f.sum) same f.forged;
+      }
+
+  opened_from : (bodies : List (List ℕ)) (number : ℕ) (opened : List Pair) → Place all dialler listener → IsSealedThere all dialler listener side bodies → number + length opened ≤ 2 ^ 64 → AreOpened (connection_key pair dialler listener) side number opened → ((later : List (List ℕ)) × (drop number bodies ≡ bodies_of opened ++ later)) ⊎ ForgedFrom number opened
+  opened_from bodies number [] place there fits are = inl (drop number bodies, refl)
+  opened_from bodies number ((body, sum) ∷ rest) place there fits are =
+      elim (has_or_not (all_summed all) (terms_of dialler listener, text_of side number body)) [
+        | inr none ↦ inr (forged_now number body sum rest (are.0, none))
+        | inl has ↦ elim (opened_from bodies (number + 1) rest place there (omega arith) are.1) [
+          | inr forged ↦ inr (forged_later number (body, sum) rest forged)
+          | inl next ↦
+              let at = sealed_there all dialler listener side bodies number body place there (omega arith) (source all (terms_of dialler listener, text_of side number body) has) in
+              inl (next.0, one_more bodies number body at.rest (bodies_of rest) next.0 at.is next.1)
+        ]
+      ]
+
+pub only_sealed_is_heard : OnlySealedIsHeard
+only_sealed_is_heard pair all dialler listener side bodies opened each fits fits' count there are =
+    let place : Place all dialler listener = record { all_fit = each; dialler_fits = fits; listener_fits = fits' } in
+    elim (opened_from pair all dialler listener side bodies 0 opened place there (omega arith) are) [
+      | inl prefix ↦ inl prefix
+      | inr forged ↦ inr (forged_there pair all dialler listener side opened forged)
+    ]
