@@ -4,9 +4,9 @@ use Rattle.std.specs.List.{flat_map}
 use Rattle.std.proofs.lemmas.List.{drop_at, length-map, length-take-le, take-append-drop}
 use Rattle.vr_wire.specs.Frames.{frame_of}
 use Rattle.vr_wire.specs.Streams.{OnlyFramed}
-use Rattle.net_keys.specs.Forging.{bodies_of}
+use Rattle.net_keys.specs.Forging.{OnlySealedIsHeard, bodies_of}
 use Rattle.net_sealed.specs.Coming.{bodies_in}
-use Rattle.laws_keys.specs.Ways.{OnlySealedIsGiven, OnlySealedIsHeard, joined}
+use Rattle.laws_keys.specs.Ways.{OnlySealedIsGiven, joined}
 
 abbrev Opened : Type 0
 Opened = List ℕ × List ℕ
@@ -41,7 +41,7 @@ all_went bodies later records came left rest all b r w =
 
 pub only_sealed_is_given : OnlySealedIsHeard → OnlyFramed → OnlySealedIsGiven
 only_sealed_is_given heard framed all w put given opened ending each fits s o =
-    elim (heard all w (s.first ++ s.bodies) opened each fits s.there o.count o.each) [
+    elim (heard w.pair all w.dialler w.listener w.side (s.first ++ s.bodies) opened each fits.dialler fits.listener o.count s.there o.each) [
       | inr forged ↦ inr forged
       | inl prefix ↦
           let first : List Opened = take w.meeting opened in

@@ -1,5 +1,4 @@
 pub mod Given
-pub mod Heard
 pub mod Placed
 pub mod Proved
 pub mod Ran

@@ -11,11 +11,10 @@ use Rattle.sha2.specs.Sha256.{sha256, digest_bytes, hash_after, compress, rounds
 use Rattle.net_keys.specs.Hmac.{hmac}
 use Rattle.net_keys.specs.Meeting.{connection_key, terms_of}
 use Rattle.net_keys.specs.Sealing.{sum_of, text_of}
-use Rattle.net_keys.specs.Forging.{AreOpened, IsSealedThere, Sealed, all_summed}
+use Rattle.net_keys.specs.Forging.{AreOpened, HasForged, IsSealedThere, Sealed, all_summed}
 use Rattle.net_keys.specs.declared.challenge.Challenge.{Challenge}
 use Rattle.net_keys.specs.declared.sealing.Side.TheVariants.{Dialler, Listener}
-use Rattle.laws_keys.proofs.Heard.{contains_none}
-use Rattle.laws_keys.specs.Ways.{Way, HasForged, HasOpened, HasSealed}
+use Rattle.laws_keys.specs.Ways.{Way, HasOpened, HasSealed}
 
 abbrev pub pair : List ℕ
 pair = 0 ∷ 1 ∷ 2 ∷ 3 ∷ 4 ∷ 5 ∷ 6 ∷ 7 ∷ 8 ∷ 9 ∷ 10 ∷ 11 ∷ 12 ∷ 13 ∷ 14 ∷ 15 ∷ 16 ∷ 17 ∷ 18 ∷ 19 ∷ 20 ∷ 21 ∷ 22 ∷ 23 ∷ 24 ∷ 25 ∷ 26 ∷ 27 ∷ 28 ∷ 29 ∷ 30 ∷ 31 ∷ []
@@ -136,15 +135,15 @@ at_its_place (suc zero) body sum is =
     (1, omega arith, ap (λ (b : List ℕ). (terms_of dialler listener, text_of Dialler 1 b)) same)
 at_its_place (suc (suc place)) body sum is = absurd cc
 
-pub nothing_was_forged : HasForged (sealed ∷ []) way opened → ⊥
+pub nothing_was_forged : HasForged pair (sealed ∷ []) dialler listener Dialler opened → ⊥
 nothing_was_forged f = f.forged.1 (at_its_place f.place f.body f.sum f.there)
 
 -- it would have been, had nobody who has the key sealed anything
-pub all_was_forged : HasForged [] way opened
+pub all_was_forged : HasForged pair [] dialler listener Dialler opened
 all_was_forged = record {
   place = 0;
   body = hello;
   sum = first_sum;
   there = refl;
-  forged = (both_are_opened.0, λ has. contains_none (terms_of dialler listener, text_of Dialler 0 hello) has);
+  forged = (both_are_opened.0, λ has. absurd (omega (arith, has.1)));
 }

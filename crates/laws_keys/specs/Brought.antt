@@ -18,13 +18,13 @@ use Rattle.vr_model.specs.Steps.{ClientAction, Hears, AreClientSteps, first_clie
 use Rattle.vr_core.specs.StandsFor.{IsSavedAs}
 use Rattle.vr_serving.specs.Serving.{sends_in}
 use Rattle.vr_wire.specs.declared.fault.WireFault.{WireFault}
-use Rattle.net_keys.specs.Forging.{FitsSealed, Sealed}
+use Rattle.net_keys.specs.Forging.{FitsSealed, HasForged, Sealed}
 use Rattle.laws_threads.specs.CodeMoves.{CodeMove, Starts, Steps, Dies, Serves}
 use Rattle.laws_threads.specs.OwnMoves.{OwnMove, AllTakeHanded, own_moves, own_steps}
 use Rattle.laws_threads.specs.MachineMoves.{AreMachineMoves}
 use Rattle.laws_threads.specs.SilentMoves.{IsWithoutSilent}
 use Rattle.laws_threads.specs.ClientStarts.{AreStepsOverStarts}
-use Rattle.laws_keys.specs.Ways.{Way, FitsWay, HasForged, HasOpened, HasSealed}
+use Rattle.laws_keys.specs.Ways.{Way, FitsWay, HasOpened, HasSealed}
 
 -- what was opened over a way, each record a body with its sum
 pub record Heard : Type 0 where
@@ -42,7 +42,8 @@ pub record AnyForgedIn (book : Book) : Type 0 where
   pub moment : ℕ
   pub one : Heard
   pub among : Contains (book.heard moment) one
-  pub forged : HasForged (book.sealed moment one.way.pair) one.way one.opened
+  pub forged : HasForged one.way.pair (book.sealed moment one.way.pair) one.way.dialler one.way.listener one.way.side
+      one.opened
 
 -- The message was given over a way by this moment, at whose other end only what was handed out before was put.
 pub record CameOver (book : Book) (moment : ℕ) (sent : List code.Message) (m : code.Message) : Type 0 where

@@ -1,6 +1,6 @@
 -- One way over a connection between two machines that have a key: what one end has sealed there by a moment, and what
 -- the other end has opened.
-use Rattle.std.specs.Prelude.{◌≡◌, ℕ, ◌^◌, ◌≤◌, ◌⊎◌, List, [], ◌∷◌, ◌++◌, length, drop, Some, slice_get}
+use Rattle.std.specs.Prelude.{◌≡◌, ℕ, ◌^◌, ◌≤◌, ◌⊎◌, List, [], ◌∷◌, ◌++◌, length, drop}
 use Rattle.std.specs.List.{flat_map, AllByRecursion}
 use Rattle.io_model.specs.Streams.{Ending, Splits, IsRest}
 use Rattle.vr_model.specs.declared.message.Message.{Message}
@@ -8,9 +8,8 @@ use Rattle.vr_wire.specs.declared.fault.WireFault.{WireFault}
 use Rattle.vr_wire.specs.Frames.{frame_of, IsFramed}
 use Rattle.vr_wire.specs.Streams.{frames}
 use Rattle.net_keys.specs.Challenges.{FitsChallenge}
-use Rattle.net_keys.specs.Meeting.{connection_key, terms_of}
-use Rattle.net_keys.specs.Sealing.{text_of}
-use Rattle.net_keys.specs.Forging.{AreOpened, FitsSealed, IsForged, IsSealedThere, Sealed, all_summed, bodies_of}
+use Rattle.net_keys.specs.Meeting.{connection_key}
+use Rattle.net_keys.specs.Forging.{AreOpened, FitsSealed, HasForged, IsSealedThere, Sealed}
 use Rattle.net_keys.specs.declared.challenge.Challenge.{Challenge}
 use Rattle.net_keys.specs.declared.sealing.Side.{Side}
 use Rattle.net_sealed.specs.Coming.{bodies_in}
@@ -55,23 +54,6 @@ pub record HasOpened (w : Way) (opened : List (List ℕ × List ℕ)) (given : L
   pub read : bodies_in (drop w.meeting opened) ≡ came ++ left
   pub split : Splits frames came given ending
 
--- Of the records that were opened over a way, the one at this place was made by somebody who hasn't the key: its sum is
--- right, and of all that whoever has the key has sealed nothing has that text.
-pub record HasForged (all : List Sealed) (w : Way) (opened : List (List ℕ × List ℕ)) : Type 0 where
-  pub place : ℕ
-  pub body : List ℕ
-  pub sum : List ℕ
-  pub there : slice_get opened place ≡ Some (body, sum)
-  pub forged : IsForged w.pair (all_summed all) (terms_of w.dialler w.listener) (text_of w.side place body) sum
-
--- What was opened over a way is a prefix of what was sealed there, in order; or one of these records was forged.
-abbrev pub OnlySealedIsHeard : Type 0
-OnlySealedIsHeard =
-    (all : List Sealed) (w : Way) (bodies : List (List ℕ)) (opened : List (List ℕ × List ℕ))
-    → AllByRecursion FitsSealed all → FitsWay w → IsSealedThere all w.dialler w.listener w.side bodies
-    → length opened ≤ 2 ^ 64 → AreOpened (connection_key w.pair w.dialler w.listener) w.side 0 opened
-    → ((later : List (List ℕ)) × (bodies ≡ bodies_of opened ++ later)) ⊎ HasForged all w opened
-
 -- What was given over a way is a prefix of the messages that were put at the end which seals, in order, and no fault
 -- was met; or one of the records that were opened was forged.
 abbrev pub OnlySealedIsGiven : Type 0
@@ -79,4 +61,5 @@ OnlySealedIsGiven =
     (all : List Sealed) (w : Way) (put given : List Message) (opened : List (List ℕ × List ℕ))
     (ending : Ending WireFault)
     → AllByRecursion FitsSealed all → FitsWay w → HasSealed all w put → HasOpened w opened given ending
-    → ((later : List Message) × (put ≡ given ++ later) × IsRest ending) ⊎ HasForged all w opened
+    → ((later : List Message) × (put ≡ given ++ later) × IsRest ending)
+    ⊎ HasForged w.pair all w.dialler w.listener w.side opened

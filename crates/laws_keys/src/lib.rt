@@ -7,13 +7,13 @@
 //!
 //! `laws_threads` presupposes that each message which is taken was handed out before, to its taker. Here that is so
 //! where the group has a key, or a record was forged: one that was opened, whose sum is right, and that nobody made who
-//! has the key (`HasForged` of `specs/Ways`).
+//! has the key (`HasForged` of net_keys).
 //!
 //! Proved:
 //!
-//! - Of one way over a connection (`specs/Ways`): what was opened at its end is a prefix of what was sealed at the
-//!   other, in order (`only_sealed_is_heard`), and what was given a prefix of the messages whose frames were sealed
-//!   there, with no fault (`only_sealed_is_given`); or a record that was opened there was forged.
+//! - Of one way over a connection (`specs/Ways`): as what was opened at its end is a prefix of what was sealed at the
+//!   other (`only_sealed_is_heard` of net_keys), what was given is a prefix of the messages whose frames were sealed
+//!   there, in order, with no fault; or a record that was opened there was forged (`only_sealed_is_given`).
 //! - Of one connection of net_peers with a key (`specs/Hellos`): what is read behind a hello that its sayer has proved
 //!   was opened over a way from that sayer's machine to this one, behind the records by which both have met
 //!   (`proved_connections_are_ways`), in however many readings (`readings_join`); and a visit that was left is the
@@ -42,18 +42,14 @@ ghost use Rattle.vr_model.specs.Membership.{Group};
 ghost use Rattle.laws_threads.specs.CodeMoves.{CodeMove, AreOneRun};
 ghost use Rattle.laws_threads.specs.MachineMoves.{AreMachineMoves};
 ghost use Rattle.laws_threads.specs.Ran.{RanAsOne};
-ghost use Rattle.laws_keys.specs.Ways.{OnlySealedIsGiven, OnlySealedIsHeard};
+ghost use Rattle.laws_keys.specs.Ways.{OnlySealedIsGiven};
 ghost use Rattle.laws_keys.specs.Hellos.{LeftOpenWays, ProvedOpenWays, ReadingsJoin};
 ghost use Rattle.laws_keys.specs.Brought.{AllAreBrought, AnyForgedIn, Book, HasPlaces, HaveRanByKeys};
 ghost use Rattle.laws_keys.specs.Brought.{KeyedMachinesInOneOrder};
 
 use laws_threads::{Judged, machines_are_one_run, machines_that_ran_are_one_run};
 use net_ends::only_sent_is_given;
-
-/// What was opened over a way is a prefix of what was sealed there, in order; or one of these records was forged.
-pub fn only_sealed_is_heard()
-    ensures { OnlySealedIsHeard }
-{}
+use net_keys::only_sealed_is_heard;
 
 /// What the other end of a way has given is a prefix of the messages that were put at the end which seals, in order,
 /// and it met no fault; or a record that was opened there was forged.
