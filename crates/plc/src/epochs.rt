@@ -6,7 +6,9 @@ use il_text::{Fault, put, put_numbered};
 use io_model::CountedWrite;
 use plc_group::Group;
 use plc_machine::wanted;
-use plc_store::{ByHand, FileDirectory, Refusal, changed_in, enter_by_hand, epoch_line, stored_in};
+use plc_store::{
+    ByHand, FileDirectory, Refusal, changed_in, draw, enter_by_hand, epoch_line, stored_in,
+};
 use plc_words::EpochProgram;
 use std::io::Write;
 use std::net::TcpStream;
@@ -102,8 +104,8 @@ fn tell_driving<E: CountedWrite>(machine: usize, err: &mut E) -> u8 {
     Fault::Commands.status()
 }
 
-/// Puts the store of a directory into another epoch, with this image, or as it's asked for: the line of that epoch. A
-/// store of another group is refused.
+/// Puts the store of a directory into another epoch, with this image, or as it's asked for: the line of that epoch. There
+/// it's known by a number that is drawn now. A store of another group is refused.
 fn entered_in(
     rt: &HostRuntime,
     group: &Group,
@@ -122,6 +124,6 @@ fn entered_in(
         Some(number) => ByHand::Numbered(u64::from(number)),
         None => ByHand::Next,
     };
-    let store = enter_by_hand(rt.alloc(), &mut directory, into, image)?;
+    let store = enter_by_hand(rt.alloc(), &mut directory, into, image, draw(rt)?)?;
     Ok(epoch_line(rt.alloc(), &store.header.kept)?)
 }

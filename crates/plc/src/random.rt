@@ -1,4 +1,4 @@
-//! Random bytes, by which groups and stores are told apart.
+//! Random bytes, by which groups are told apart, and those of keys.
 
 use il_text::{Fault, put};
 use io_model::CountedWrite;
@@ -27,15 +27,6 @@ pub(crate) fn key_bytes<E: CountedWrite>(rt: &HostRuntime, err: &mut E) -> Resul
     let mut bytes = [0u8; 32];
     match rt.fill_bytes(&mut bytes) {
         Ok(()) => Ok(bytes),
-        Err(_) => Err(tell_no_random(err)),
-    }
-}
-
-/// What tells a store from others, never 0; or the status where it isn't to be had, which is told.
-pub(crate) fn store_number<E: CountedWrite>(rt: &HostRuntime, err: &mut E) -> Result<u64, u8> {
-    let mut bytes = [0u8; 8];
-    match rt.fill_bytes(&mut bytes) {
-        Ok(()) => Ok(u64::from_be_bytes(bytes).max(1)),
         Err(_) => Err(tell_no_random(err)),
     }
 }

@@ -5,7 +5,6 @@ ghost use Rattle.plc_store.specs.Judging.{is_unbegun};
 
 use crate::calls::{flushed, list_image};
 use crate::files::{file, is_open_to_all, refuse, tell_of};
-use crate::random::store_number;
 use il_text::{Fault, image_bytes, put, put_numbered, tell};
 use io_model::{Counted, CountedWrite};
 use plc_group::{Group, exposed_lines, read_group, tell_group_fault};
@@ -13,7 +12,8 @@ use plc_host::Failed;
 use plc_machine::{NotMade, new_store, waiting_store};
 use plc_serve::tell_failed;
 use plc_store::{
-    FileDirectory, Refusal, Store, cause_text, changed_in, show_directory, stored_in, tell_refusal,
+    FileDirectory, Refusal, Store, cause_text, changed_in, draw, show_directory, stored_in,
+    tell_refusal,
 };
 use std::io::Write;
 
@@ -76,9 +76,9 @@ fn format_of<E: CountedWrite>(
     image: Vec<u8>,
     err: &mut E,
 ) -> u8 {
-    let number = match store_number(rt, err) {
+    let number = match draw(rt) {
         Ok(number) => number,
-        Err(status) => return status,
+        Err(refusal) => return tell_refusal(refusal, err),
     };
     let made = if asked.waits {
         waiting_store(group, asked.machine, image, number)

@@ -10,9 +10,10 @@ use crate::unserved::Unserved;
 use net_hello::Epoch;
 use plc_epochs::Kept;
 use plc_host::{Failed, Host};
-use plc_store::{FileDirectory, Refusal, keep};
+use plc_store::{FileDirectory, Refusal, draw, keep};
 use std::alloc::{AllocError, Global};
 use std::fs::File;
+use std::random::RandomSource;
 use std::rt::Files;
 use std::sync::Arc;
 use std::sync::atomic::{AtomicBool, Ordering};
@@ -55,10 +56,11 @@ pub(crate) enum Written {
     Hangs,
 }
 
-/// Writes it.
+/// Writes it. In another epoch the store is known by a number that is drawn now, which no copy of the store from before
+/// has: whoever has seen this one there refuses that.
 fn write<R>(host: Host<R>, path: &str, entry: &Entry) -> Result<(), Refusal>
 where
-    R: Files<File = File> + Alloc<A = Global> + Copy + Drop,
+    R: Files<File = File> + RandomSource + Alloc<A = Global> + Copy + Drop,
 {
     let Host { rt, alloc } = host;
     let mut directory = FileDirectory::look(rt, alloc, path)?;
@@ -67,7 +69,7 @@ where
         // that has lost its view.
         Beginning::new(rt, alloc, path)?.put(epoch)?;
     }
-    let _ = keep(alloc, &mut directory, &entry.kept())?;
+    let _ = keep(alloc, &mut directory, &entry.kept(), draw(&rt)?)?;
     Ok(())
 }
 

@@ -9,19 +9,19 @@ use Rattle.vr_model.specs.Groups.{most_replicas}
 use Rattle.plc_store.specs.Spelling.{Saying, spelling}
 
 -- the store before, or the next one
-pub next_or_before : (before after : Option (List ℕ)) (found : Saying) (kept : Kept) → found_in before ≡ Ok found → GoesOn found.header.kept kept
-    → (after ≡ before) ⊎ (after ≡ Some (spelling (with_kept found kept)))
-    → (after ≡ before) ⊎ ((said : Saying) × IsNext before kept said × (after ≡ Some (spelling said)))
-next_or_before before after found kept is on (inl same) = inl same
-next_or_before before after found kept is on (inr put) = inr (with_kept found kept, (found, is, on, refl), put)
+pub next_or_before : (before after : Option (List ℕ)) (found : Saying) (kept : Kept) (drawn : ℕ) → found_in before ≡ Ok found → GoesOn found.header.kept kept
+    → (after ≡ before) ⊎ (after ≡ Some (spelling (with_kept found kept drawn)))
+    → (after ≡ before) ⊎ ((said : Saying) × IsNext before kept drawn said × (after ≡ Some (spelling said)))
+next_or_before before after found kept drawn is on (inl same) = inl same
+next_or_before before after found kept drawn is on (inr put) = inr (with_kept found kept drawn, (found, is, on, refl), put)
 
 -- the store before, or that of another epoch
-pub by_hand_or_before : (before after image : Option (List ℕ)) (which : ByHand) (found put : Saying) (kept : Kept) → found_in before ≡ Ok found
-    → kept_by_hand found.header (with_image found image).header.program which ≡ Ok kept → put ≡ with_kept (with_image found image) kept
+pub by_hand_or_before : (before after image : Option (List ℕ)) (which : ByHand) (found put : Saying) (kept : Kept) (drawn : ℕ) → found_in before ≡ Ok found
+    → kept_by_hand found.header (with_image found image).header.program which ≡ Ok kept → put ≡ with_kept (with_image found image) kept drawn
     → (after ≡ before) ⊎ (after ≡ Some (spelling put))
-    → (after ≡ before) ⊎ ((said : Saying) × IsByHand before which image said × (after ≡ Some (spelling said)))
-by_hand_or_before before after image which found put kept is by same (inl stays) = inl stays
-by_hand_or_before before after image which found put kept is by same (inr stands) = inr (put, (found, kept, is, by, same), stands)
+    → (after ≡ before) ⊎ ((said : Saying) × IsByHand before which image drawn said × (after ≡ Some (spelling said)))
+by_hand_or_before before after image which found put kept drawn is by same (inl stays) = inl stays
+by_hand_or_before before after image which found put kept drawn is by same (inr stands) = inr (put, (found, kept, is, by, same), stands)
 
 -- the store before, or one that has seen another
 pub seen_or_before : (before after : Option (List ℕ)) (machine store : ℕ) (found put : Saying) → found_in before ≡ Ok found → machine < most_replicas

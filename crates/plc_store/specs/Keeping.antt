@@ -29,9 +29,19 @@ no_stores = replicate most_replicas 0
 abbrev pub seen_in : Header → Kept → List ℕ
 seen_in header kept = if are_of_one_epoch header.kept kept then header.seen else no_stores
 
--- a store with something else of epochs
-abbrev pub with_kept : Saying → Kept → Saying
-with_kept said kept = record said { header = record said.header { kept = kept; seen = seen_in said.header kept } }
+-- what a store is known by is of one epoch: in another one it's the number that was drawn
+abbrev pub store_in : Header → Kept → ℕ → ℕ
+store_in header kept drawn = if are_of_one_epoch header.kept kept then header.store else drawn
+
+-- a store with something else of epochs, where this number was drawn
+abbrev pub with_kept : Saying → Kept → ℕ → Saying
+with_kept said kept drawn = record said {
+  header = record said.header {
+    kept = kept;
+    store = store_in said.header kept drawn;
+    seen = seen_in said.header kept;
+  };
+}
 
 -- that has seen this store of a machine
 abbrev pub with_seen : Saying → ℕ → ℕ → Saying
@@ -48,10 +58,11 @@ abbrev pub with_image : Saying → Option (List ℕ) → Saying
 with_image said None = said
 with_image said (Some image) = record { header = record said.header { program = sha256 image }; image = image }
 
--- The store of these bytes, with what it may have of epochs next, this: it never goes back.
-abbrev pub IsNext : Option (List ℕ) → Kept → Saying → Type 0
-IsNext group kept said = (found : Saying) × (found_in group ≡ Ok found) × GoesOn found.header.kept kept
-    × (said ≡ with_kept found kept)
+-- The store of these bytes, with what it may have of epochs next, this: it never goes back. In another epoch it's known
+-- by this number.
+abbrev pub IsNext : Option (List ℕ) → Kept → ℕ → Saying → Type 0
+IsNext group kept drawn said = (found : Saying) × (found_in group ≡ Ok found) × GoesOn found.header.kept kept
+    × (said ≡ with_kept found kept drawn)
 
 -- the store of these bytes would go back
 abbrev pub WouldGoBack : Option (List ℕ) → Kept → Type 0
@@ -87,11 +98,12 @@ kept_by_hand header program into.Next = if lacks header.kept header.program prog
     else next_by_hand header.kept program
 kept_by_hand header program (into.Numbered number) = numbered_by_hand header.kept program number
 
--- The store of these bytes, put into an epoch by hand, with another image if there is one.
-abbrev pub IsByHand : Option (List ℕ) → ByHand → Option (List ℕ) → Saying → Type 0
-IsByHand group which image said = (found : Saying) × (kept : Kept) × (found_in group ≡ Ok found)
+-- The store of these bytes, put into an epoch by hand, with another image if there is one. In another epoch it's known by
+-- this number.
+abbrev pub IsByHand : Option (List ℕ) → ByHand → Option (List ℕ) → ℕ → Saying → Type 0
+IsByHand group which image drawn said = (found : Saying) × (kept : Kept) × (found_in group ≡ Ok found)
     × (kept_by_hand found.header (with_image found image).header.program which ≡ Ok kept)
-    × (said ≡ with_kept (with_image found image) kept)
+    × (said ≡ with_kept (with_image found image) kept drawn)
 
 -- it was marked by a change of the program, so the image that it has may be an old one, and no other is given
 abbrev pub IsProgramWanted : Option (List ℕ) → Option (List ℕ) → Option (List ℕ) → Type 0

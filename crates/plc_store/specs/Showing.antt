@@ -102,11 +102,13 @@ refusal_line (refusals.Device disk.Rights) = codes "plc: device no rights\n"
 refusal_line (refusals.Device disk.Space) = codes "plc: device no space\n"
 refusal_line (refusals.Device disk.Missing) = codes "plc: device file gone\n"
 refusal_line (refusals.Device disk.Other) = codes "plc: device\n"
+refusal_line refusals.Random = codes "plc: device random\n"
 refusal_line refusals.Memory = codes "plc: memory\n"
 
 -- 2 where a later start may go well
 abbrev pub status_of : Refusal → ℕ
 status_of (refusals.Device fault) = 2
+status_of refusals.Random = 2
 status_of refusals.Memory = 2
 status_of refusals.Taken = 2
 status_of refusal = 1

@@ -19,7 +19,8 @@ pub struct Header {
     pub program: [u8; 32],
     /// The machine's place in the group file, from 0.
     pub machine: u8,
-    /// What tells it from another store of the same machine: drawn when it was made, and never 0.
+    /// What tells it from another store of the same machine, and from a copy of it from an epoch before: drawn when it
+    /// was made, and once more with each epoch that it enters; never 0.
     pub store: u64,
     /// Which stores of the other machines were seen in the epoch that it's in.
     pub seen: Seen,

@@ -68,6 +68,8 @@ pub enum Refusal {
     Open,
     /// It can't be read or written.
     Device(DiskFault),
+    /// No random bytes are to be had, by which a store is known.
+    Random,
     Memory,
 }
 

@@ -7,7 +7,7 @@ ghost use Rattle.plc_epochs.specs.declared.kept.Kept.TheVariants as keeps;
 ghost use Rattle.plc_store.specs.Judging.{IsFromOutside, IsUnread};
 ghost use Rattle.plc_store.specs.Keeping.{HasSeen, IsByHand, IsNext, IsProgramWanted, IsRefusedByHand, WouldGoBack};
 ghost use Rattle.plc_store.specs.Keeping.{are_of_one_epoch, kept_by_hand, lacks, next_by_hand, numbered_by_hand};
-ghost use Rattle.plc_store.specs.Keeping.{seen_in, with_image, with_kept, with_seen};
+ghost use Rattle.plc_store.specs.Keeping.{seen_in, store_in, with_image, with_kept, with_seen};
 ghost use Rattle.plc_store.specs.Spelling.{Saying, saying, spelling};
 ghost use Rattle.plc_store.specs.declared.judging.Refusal.TheVariants.{Backward, OtherMachine, TooLong};
 
@@ -41,15 +41,30 @@ fn seen_in(header: &Header, kept: &Kept) -> Seen
     }
 }
 
-/// A store with something else of epochs. Which stores were seen is forgotten where that's another epoch.
-fn with_kept(store: Store, kept: &Kept) -> Store
-    ensures { saying result ≡ with_kept (saying store) kept.now }
+/// What a store of this header is known by in the epoch of which it's to have something: in another one it's the number
+/// that was drawn. So a copy of it from an epoch before isn't what others have seen in this one.
+fn store_in(header: &Header, kept: &Kept, drawn: u64) -> u64
+    ensures { result ≡ store_in header.now kept.now drawn }
+{
+    if are_of_one_epoch(&header.kept, kept) {
+        header.store
+    } else {
+        drawn
+    }
+}
+
+/// A store with something else of epochs. Where that's another epoch it's known by the number that was drawn, and which
+/// stores were seen is forgotten.
+fn with_kept(store: Store, kept: &Kept, drawn: u64) -> Store
+    ensures { saying result ≡ with_kept (saying store) kept.now drawn }
 {
     let seen = seen_in(&store.header, kept);
+    let number = store_in(&store.header, kept, drawn);
     let Store { header, image } = store;
     Store {
         header: Header {
             kept: *kept,
+            store: number,
             seen,
             ..header
         },
@@ -95,36 +110,38 @@ fn make_room<D: StoreDirectory>(directory: &mut D, kept: &Kept) -> Result<(), Re
     }
 }
 
-/// Puts a store with this of epochs into its directory.
+/// Puts a store with this of epochs into its directory, where this number was drawn.
 fn go_on<D: StoreDirectory>(
     alloc: Global,
     directory: &mut D,
     store: Store,
     kept: &Kept,
+    drawn: u64,
 ) -> Result<Store, Refusal>
-    ensures next { IfOk result (λ put. saying put ≡ with_kept (saying store) kept.now) }
-    ensures done { OnOk result (D.group directory.new ≡ Some (spelling (with_kept (saying store) kept.now))) }
+    ensures next { IfOk result (λ put. saying put ≡ with_kept (saying store) kept.now drawn) }
+    ensures done { OnOk result (D.group directory.new ≡ Some (spelling (with_kept (saying store) kept.now drawn))) }
     ensures begun { (epoch : Numbered) → kept.now ≡ keeps.Begun epoch
         → (D.group directory.new ≡ D.group directory.old)
         ⊎ ((D.views directory.new ≡ []) × (D.mark directory.new ≡ None)) }
     ensures refused { IfErr result IsFromOutside }
     ensures whole { (D.group directory.new ≡ D.group directory.old)
-        ⊎ (D.group directory.new ≡ Some (spelling (with_kept (saying store) kept.now))) }
+        ⊎ (D.group directory.new ≡ Some (spelling (with_kept (saying store) kept.now drawn))) }
 {
     make_room(directory, kept)?;
-    put(alloc, directory, with_kept(store, kept))
+    put(alloc, directory, with_kept(store, kept, drawn))
 }
 
 /// Has the store of a directory say this of epochs, and answers it: it stands there before it's answered. It's
-/// `Backward` where the store would go back. Where it says that already nothing is written. Where it begins an epoch by
-/// this, the views and the mark of the one before are taken away first. Where it fails the store is as it was, or the
-/// next one.
+/// `Backward` where the store would go back. Where it says that already nothing is written. Where that's another epoch
+/// the store is known by the number that was drawn from then on. Where it begins an epoch by this, the views and the
+/// mark of the one before are taken away first. Where it fails the store is as it was, or the next one.
 pub fn keep<D: StoreDirectory>(
     alloc: Global,
     directory: &mut D,
     kept: &Kept,
+    drawn: u64,
 ) -> Result<Store, Refusal>
-    ensures next { IfOk result (λ store. IsNext (D.group directory.old) kept.now (saying store)) }
+    ensures next { IfOk result (λ store. IsNext (D.group directory.old) kept.now drawn (saying store)) }
     ensures kept { IfOk result (λ store. D.group directory.new ≡ Some (spelling (saying store))) }
     ensures begun { (epoch : Numbered) → kept.now ≡ keeps.Begun epoch
         → (D.group directory.new ≡ D.group directory.old)
@@ -132,7 +149,7 @@ pub fn keep<D: StoreDirectory>(
     ensures refused { IfErr result (λ e. IsUnread (D.group directory.old) e
         ⊎ ((e ≡ Backward) × WouldGoBack (D.group directory.old) kept.now)) }
     ensures whole { (D.group directory.new ≡ D.group directory.old) ⊎ (said : Saying)
-        × IsNext (D.group directory.old) kept.now said × (D.group directory.new ≡ Some (spelling said)) }
+        × IsNext (D.group directory.old) kept.now drawn said × (D.group directory.new ≡ Some (spelling said)) }
 {
     let store = stored_in(alloc, directory)?;
     if store.header.kept == *kept {
@@ -141,7 +158,7 @@ pub fn keep<D: StoreDirectory>(
     if !store.header.kept.goes_on(kept) {
         return Err(Refusal::Backward);
     }
-    go_on(alloc, directory, store, kept)
+    go_on(alloc, directory, store, kept, drawn)
 }
 
 /// Has the store of a directory say that this store of a machine was seen in its epoch, and answers it: it stands there
@@ -245,24 +262,25 @@ fn kept_by_hand(header: &Header, program: &[u8; 32], into: ByHand) -> Result<Kep
 
 /// Puts the store of a directory into an epoch by hand, with this image, or the one that it has. Where it has entered an
 /// epoch that begins with this image, and has another one, it gets the image for the next one, and stays in that epoch.
-/// A store of which the program was changed in its epoch wants an image: `Changed`. `Waits` and `LastEpoch` are those of
-/// `Kept::by_hand`; `NotAbove` is told of a number that is no greater than its own epoch's. Where it fails the store is
-/// as it was, or the next one.
+/// In another epoch it's known by the number that was drawn. A store of which the program was changed in its epoch wants
+/// an image: `Changed`. `Waits` and `LastEpoch` are those of `Kept::by_hand`; `NotAbove` is told of a number that is no
+/// greater than its own epoch's. Where it fails the store is as it was, or the next one.
 pub fn enter_by_hand<D: StoreDirectory>(
     alloc: Global,
     directory: &mut D,
     into: ByHand,
     image: Option<Vec<u8>>,
+    drawn: u64,
 ) -> Result<Store, Refusal>
     ensures entered { IfOk result (λ store.
-        IsByHand (D.group directory.old) into (option_map (λ v. v.items) image) (saying store)) }
+        IsByHand (D.group directory.old) into (option_map (λ v. v.items) image) drawn (saying store)) }
     ensures kept { IfOk result (λ store. D.group directory.new ≡ Some (spelling (saying store))) }
     ensures refused { IfErr result (λ e. IsUnread (D.group directory.old) e
         ⊎ IsRefusedByHand (D.group directory.old) (D.mark directory.old) into (option_map (λ v. v.items) image) e) }
     ensures changed { OnOk result
         (¬ IsProgramWanted (D.group directory.old) (D.mark directory.old) (option_map (λ v. v.items) image)) }
     ensures whole { (D.group directory.new ≡ D.group directory.old) ⊎ (said : Saying)
-        × IsByHand (D.group directory.old) into (option_map (λ v. v.items) image) said
+        × IsByHand (D.group directory.old) into (option_map (λ v. v.items) image) drawn said
         × (D.group directory.new ≡ Some (spelling said)) }
 {
     let store = stored_in(alloc, directory)?;
@@ -272,5 +290,5 @@ pub fn enter_by_hand<D: StoreDirectory>(
     let header = store.header;
     let store = with_image(store, image)?;
     let kept = kept_by_hand(&header, &store.header.program, into)?;
-    put(alloc, directory, with_kept(store, &kept))
+    put(alloc, directory, with_kept(store, &kept, drawn))
 }

@@ -1,9 +1,15 @@
 //! What holds of every store.
 
-ghost use Rattle.std.specs.Prelude.{◌≡◌, ◌≢◌, ◌<◌, ℕ, List, [], Option, Err, None, Ok, Some, length, take};
+ghost use Rattle.std.specs.Prelude.{◌≡◌, ◌≢◌, ◌<◌, ℕ, List, [], Option, Err, None, Ok, Some, false, length, take, true};
+ghost use Rattle.net_hello.specs.Identity.{is_another_store, judged_by};
 ghost use Rattle.net_hello.specs.declared.hello.Epoch.{Epoch as Numbered};
+ghost use Rattle.net_hello.specs.declared.hello.Hello.{Hello};
+ghost use Rattle.net_hello.specs.declared.hello.Known.{Known};
+ghost use Rattle.net_hello.specs.declared.judging.Refusal.TheVariants.{OtherStore};
+ghost use Rattle.plc_epochs.specs.declared.kept.Kept.{Kept};
 ghost use Rattle.plc_epochs.specs.declared.kept.Kept.TheVariants as keeps;
 ghost use Rattle.plc_store.specs.Judging.{HasEntered, judged};
+ghost use Rattle.plc_store.specs.Keeping.{are_of_one_epoch, with_kept};
 ghost use Rattle.plc_store.specs.Marking.{changed_image, mark_bytes};
 ghost use Rattle.plc_store.specs.Spelling.{Fits, Saying, spelling};
 ghost use Rattle.plc_store.specs.declared.judging.Refusal.TheVariants.{NoStore};
@@ -31,4 +37,15 @@ pub fn a_start_is_new_once()
         → said.header.kept ≡ keeps.Begun epoch → judged (Some (spelling said)) views wanted ≢ Ok First }
     ensures entered { (group : Option (List ℕ)) (views : List ℕ) (wanted : Wanted)
         → judged group views wanted ≡ Ok First → HasEntered group }
+{}
+
+/// A copy of a store from an epoch before is another store in each epoch that both come to, if the numbers that are drawn
+/// for them there differ: whoever has seen the store in that epoch refuses the copy.
+pub fn a_copy_is_another_store()
+    ensures another { (store copy : Saying) (kept : Kept) (drawn again : ℕ)
+        → are_of_one_epoch store.header.kept kept ≡ false → are_of_one_epoch copy.header.kept kept ≡ false
+        → drawn ≢ 0 → drawn ≢ again → is_another_store (with_kept store kept drawn).header.store
+        (with_kept copy kept again).header.store ≡ true }
+    ensures refused { (own other : Hello) (seen : Known) → is_another_store seen.store other.store ≡ true
+        → judged_by own seen other ≡ Err OtherStore }
 {}

@@ -174,8 +174,8 @@ fn state_of(kept: &Kept) -> &'static str
     }
 }
 
-/// Tells a refusal by its line, and answers the status: 2 where a later start may go well, since a disk failed, memory
-/// ran out or another process has the directory, else 1. It takes no memory.
+/// Tells a refusal by its line, and answers the status: 2 where a later start may go well, since a disk failed, no random
+/// bytes were to be had, memory ran out or another process has the directory, else 1. It takes no memory.
 pub fn tell_refusal<E: CountedWrite>(refusal: Refusal, err: &mut E) -> u8
     ensures status { result ≡ status_of refusal }
     ensures line { WentOut E.CountedWrite (refusal_line refusal) err.old err.new }
@@ -183,7 +183,7 @@ pub fn tell_refusal<E: CountedWrite>(refusal: Refusal, err: &mut E) -> u8
     // Where standard error fails too, the status is all that is left.
     let _ = put(err, line_of(refusal).as_bytes());
     match refusal {
-        Refusal::Device(_) | Refusal::Memory | Refusal::Taken => 2,
+        Refusal::Device(_) | Refusal::Random | Refusal::Memory | Refusal::Taken => 2,
         _ => 1,
     }
 }
@@ -226,6 +226,7 @@ fn line_of(refusal: Refusal) -> &'static str
         Refusal::Device(DiskFault::Space) => "plc: device no space\n",
         Refusal::Device(DiskFault::Missing) => "plc: device file gone\n",
         Refusal::Device(DiskFault::Other) => "plc: device\n",
+        Refusal::Random => "plc: device random\n",
         Refusal::Memory => "plc: memory\n",
     }
 }

@@ -13,6 +13,7 @@ from controller import came_true, ended, free_port, run
 import requests
 from requests import spread
 
+OWN_NUMBER = 9      # what a store is known by whose row doesn't say it
 KINDS = {'nothing': 0, 'above': 1, 'entered': 2, 'begun': 3}
 # what a machine tells that waits for an epoch, above one or above none
 WAITS = 'machine 0 waits for an epoch after 1', 'waits: hears 0 of 2 machines, wants 2'
@@ -59,7 +60,7 @@ class Made:
         epoch = self.epoch(self.kind) if self.kind in said else bytes(40)
         identity = self.identities.get(said['identity'], self.sum('identity'))
         made = b'PLCSTORE\0\3' + identity + bytes([KINDS[self.kind]]) + epoch + (self.program or self.sum('program'))
-        made += bytes([int(said['machine'])]) + struct.pack('>8Q', int(said.get('store', 9)), *seen)
+        made += bytes([int(said['machine'])]) + struct.pack('>8Q', int(said.get('store', OWN_NUMBER)), *seen)
         made += struct.pack('>I', len(self.own)) + self.own
         return made + hashlib.sha256(made).digest()
 
@@ -86,7 +87,7 @@ class Made:
         said = self.said
         epoch = self.epoch(self.kind) if self.kind in said else bytes(40)
         shown = ['format 3', f'machine {said["machine"]}', f'identity {self.sum("identity").hex()}',
-                 f'store {int(said.get("store", 9)):016x}', f'state {STATES[KINDS[self.kind]]}',
+                 f'store {int(said.get("store", OWN_NUMBER)):016x}', f'state {STATES[KINDS[self.kind]]}',
                  f'epoch {int.from_bytes(epoch[:8], "big")}', f'begins with {epoch[8:].hex()}']
         if 'saw' in said:
             machine, store = said['saw'].split('.')
@@ -269,16 +270,21 @@ def stores_are_made_where_nothing_was(plc, work):
         right = is_said({**told, 'formatted': (0, '')}, words, came, (status, err.strip())) and right
         wanted = before
         if now == 'the new store':
-            found = left(path)
-            new = plant.store(f'identity=11 entered=1.given machine=2 store={int.from_bytes(found[116:124], "big")}')
+            new = plant.store(f'identity=11 entered=1.given machine=2 store={number_in(path)}')
             new.given, new.program = plant.images[0], hashlib.sha256(plant.images[0]).digest()
             wanted = new.spelled()
         right = (left(path) == wanted or differs(words, wanted.hex(), left(path).hex())) and right
     return right
 
 
+def number_in(path):
+    """What the store that a directory has is known by."""
+    return int.from_bytes(left(path)[116:124], 'big')
+
+
 def entered_by_hand(plant, told, words, said):
-    """Whether a store is put by hand where a row says, and has the bytes that its words say then; or is as it was."""
+    """Whether a store is put by hand where a row says, and has the bytes that its words say then, by another number
+    where that's another epoch; or is as it was."""
     is_given, words = words.endswith(' given'), words.removesuffix(' given')
     made = plant.store(words)
     path = plant.directory(made.files(plant.images[2]))
@@ -292,8 +298,10 @@ def entered_by_hand(plant, told, words, said):
         right = is_said(told, words, came, (status, err.strip()))
         return (left(path) == before or differs(words, 'unchanged', left(path).hex())) and right
     is_new = came == 'with the one given'
-    entered = f'{kind}={epoch.replace(".aa", ".given")}'
-    wanted = plant.store(f'identity=11 {entered} machine={made.said["machine"]}', plant.images[is_new])
+    entered, known = f'{kind}={epoch.replace(".aa", ".given")}', number_in(path)
+    if known == 0 or (known == OWN_NUMBER) != (entered in words.split()):
+        return differs(words, 'another number with another epoch', known)
+    wanted = plant.store(f'identity=11 {entered} machine={made.said["machine"]} store={known}', plant.images[is_new])
     wanted.program = hashlib.sha256(plant.images[1]).digest() if is_new else made.sum('program')
     number, spelled = epoch.split('.')[0], wanted.spelled()
     right = (status, out) == (0, f'epoch {number}\n') or differs(words, said, (status, out, err))
