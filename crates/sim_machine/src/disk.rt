@@ -1,7 +1,7 @@
 //! The disk of a machine: what outlives a power cut, and what is written and isn't flushed.
 
-ghost use Rattle.std.specs.Prelude.{◌≡◌, ◌++◌, ◌∷◌, [], IfSome, IsNone, None, OnOk, false, true};
-ghost use Rattle.sim_machine.specs.Disks.{HasFlushed, HasSaved, HasWritten};
+ghost use Rattle.std.specs.Prelude.{◌≡◌, ◌++◌, ◌∷◌, ℕ, [], IfSome, IsNone, None, OnOk, false, true};
+ghost use Rattle.sim_machine.specs.Disks.{HasFlushed, HasSaved, HasWritten, number_in, store_in};
 ghost use Rattle.sim_machine.specs.declared.disk.Write.TheVariants as writes;
 
 use net_hello::Epoch;
@@ -27,7 +27,7 @@ pub struct Files {
     pub has_view: bool,
     pub view: u64,
     pub starts: u64,
-    /// The number that was drawn for it.
+    /// The number that was drawn for it in its epoch.
     pub store: u64,
     /// Of each other machine, which store was seen in its epoch; 0 where none was.
     seen: [u64; 8],
@@ -48,6 +48,8 @@ pub enum Write {
 #[derive(Drop)]
 pub struct Disk {
     pub files: Files,
+    /// So many numbers were drawn for stores that are there, or were: the next one is greater.
+    drawn: u64,
     /// What was asked for and isn't flushed, the earliest first.
     waiting: VecDeque<Write>,
     /// The view that its replica's thread saves, as long as that isn't flushed.
@@ -58,7 +60,9 @@ pub struct Disk {
 }
 
 /// The number of an epoch that a store has; 0 where it has none.
-fn number_in(kept: &Kept) -> u64 {
+fn number_in(kept: &Kept) -> u64
+    ensures { result ≡ number_in kept.now }
+{
     match kept {
         Kept::Nothing => 0,
         Kept::Above(epoch) | Kept::Entered(epoch) | Kept::Begun(epoch) => epoch.number,
@@ -81,16 +85,29 @@ impl Files {
 
     /// A start more is counted.
     fn count(&mut self)
-        ensures { HasWritten writes.Start self.old self.new }
+        ensures { (drawn : ℕ) → HasWritten writes.Start drawn self.old self.new }
     {
         self.has_view = true;
         self.starts = self.starts.saturating_add(1);
     }
 
-    /// They have this of epochs: of an epoch that is begun there are no views, and in another one no store was seen.
-    fn keep(&mut self, kept: Kept)
-        ensures { HasWritten (writes.Keep kept) self.old self.new }
+    /// What the store is known by that has this of epochs, where this number was drawn.
+    fn store_in(&self, kept: &Kept, drawn: u64) -> u64
+        ensures { result ≡ store_in self.now kept.now drawn }
     {
+        if number_in(&self.kept) == number_in(kept) {
+            self.store
+        } else {
+            drawn
+        }
+    }
+
+    /// They have this of epochs: of an epoch that is begun there are no views, and in another one no store was seen, and
+    /// its own is known by this number.
+    fn keep(&mut self, kept: Kept, drawn: u64)
+        ensures { HasWritten (writes.Keep kept) drawn self.old self.new }
+    {
+        self.store = self.store_in(&kept, drawn);
         match kept {
             Kept::Begun(_) => {
                 self.has_view = false;
@@ -105,14 +122,14 @@ impl Files {
         self.kept = kept;
     }
 
-    /// This is written to them.
-    fn write(&mut self, write: Write)
-        ensures { HasWritten write self.old self.new }
+    /// This is written to them, where this number was drawn.
+    fn write(&mut self, write: Write, drawn: u64)
+        ensures { HasWritten write drawn self.old self.new }
     {
         match write {
             Write::Start => self.count(),
             Write::Begins(epoch) => self.begins = Some(epoch),
-            Write::Keep(kept) => self.keep(kept),
+            Write::Keep(kept) => self.keep(kept, drawn),
         }
     }
 
@@ -155,6 +172,7 @@ impl Disk {
     pub fn new(alloc: Global, epoch: Epoch) -> Disk {
         Disk {
             files: Files::new(epoch),
+            drawn: 1,
             waiting: VecDeque::new(alloc),
             saving: None,
             is_full: false,
@@ -177,10 +195,19 @@ impl Disk {
         !self.waiting.is_empty()
     }
 
+    /// A number that no store had that was there.
+    fn draw(&mut self) -> u64
+        ensures { (result ≡ self.new.drawn) × (self.new ≡ record self.old { drawn = self.new.drawn }) }
+    {
+        self.drawn = self.drawn.saturating_add(1);
+        self.drawn
+    }
+
     /// The first write that waits is flushed, if the disk isn't full: it, and whether it is.
     pub fn flush(&mut self) -> Option<(Write, bool)>
         ensures flushed { IfSome result (λ write.
-            HasFlushed self.old.waiting.items self.new.waiting.items self.old.files self.new.files write.0 write.1) }
+            HasFlushed self.old.waiting.items self.new.waiting.items self.new.drawn self.old.files self.new.files
+            write.0 write.1) }
         ensures none { IsNone result → self.old.waiting.items ≡ [] }
         ensures same { self.new.saving ≡ self.old.saving }
     {
@@ -188,7 +215,8 @@ impl Disk {
         if self.is_full {
             return Some((write, false));
         }
-        self.files.write(write);
+        let drawn = self.draw();
+        self.files.write(write, drawn);
         Some((write, true))
     }
 
@@ -228,9 +256,18 @@ impl Disk {
         self.waiting.clear();
     }
 
+    /// A machine is formatted there for this epoch, as one that is new.
+    pub fn format(&mut self, epoch: Epoch) {
+        let store = self.draw();
+        self.files = Files {
+            store,
+            ..Files::new(epoch)
+        };
+    }
+
     /// It's replaced by another one, which waits for an epoch.
     pub fn replace(&mut self) {
-        let store = self.files.store.saturating_add(1);
+        let store = self.draw();
         self.files = Files {
             kept: Kept::Nothing,
             begins: None,
