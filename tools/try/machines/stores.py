@@ -138,6 +138,29 @@ def a_disk_without_wait_is_refused(options):
         return right and goes_on(group) or why_not(group, lost.started - 5)
 
 
+def a_copy_of_an_epoch_before_is_refused(options):
+    """A machine's directory is put back as it was in the epoch before: the store is known by another number in each epoch,
+    so those who have seen the machine in theirs refuse it, at both ends, and go on."""
+    with Group(options) as group:
+        right, reset = group.begin(), group.machines[-1]
+        group.is_over = True
+        cut(group.machines)
+        copy, before = group.path('copy'), group.shown(reset.number)
+        shutil.copytree(group.store(reset.number), copy)
+        last = started(group.machines, [0.1] * group.size)
+        right = group.driving(20) is not None and is_normal_again(group.machines, last) and right
+        after = group.shown(reset.number)
+        right = (before['epoch'], after['epoch']) == ('1', '2') and before['store'] != after['store'] and right
+        reset.kill()
+        erase(group, reset.number)
+        shutil.move(copy, group.store(reset.number))
+        reset.start()
+        line = f'machine {reset.number} refused: another store'
+        right = all(says(machine, line, reset.started, 15) for machine in group.machines[:-1]) and right
+        right = says(reset, 'machine 0 refused: it has seen another store of this machine', reset.started, 15) and right
+        return right and goes_on(group, 2) or why_not(group, last - 1)
+
+
 def a_copy_is_let_go(options):
     """A copy of a machine's store runs elsewhere for a while, in its place: once it has ended the real one is back by
     itself."""
@@ -461,7 +484,7 @@ def five_come_back(options):
 
 
 TRIES = [another_program_ends_no_group, a_later_epoch_is_refused, a_group_is_itself, a_disk_without_wait_is_refused,
-         a_copy_is_let_go, lost_disks_have_a_way_out, a_refused_change_leaves_no_mark, a_change_is_taken_by_hand,
-         who_asks_spends_no_start, a_machine_moves, format_keeps_rights, a_full_disk_ends_no_machine,
-         a_hanging_disk_holds_up_nobody, a_hanging_disk_ends_a_life, who_reads_no_lines_stops_nothing,
-         a_wrong_address_is_told, five_come_back]
+         a_copy_of_an_epoch_before_is_refused, a_copy_is_let_go, lost_disks_have_a_way_out,
+         a_refused_change_leaves_no_mark, a_change_is_taken_by_hand, who_asks_spends_no_start, a_machine_moves,
+         format_keeps_rights, a_full_disk_ends_no_machine, a_hanging_disk_holds_up_nobody, a_hanging_disk_ends_a_life,
+         who_reads_no_lines_stops_nothing, a_wrong_address_is_told, five_come_back]
