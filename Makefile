@@ -14,7 +14,7 @@
 # make uninstall [PREFIX=..] [DESTDIR=..]       takes away what install puts there
 # make deb                                    a Debian package of the proved program with all that install puts there: build/plc_VERSION_amd64.deb
 # make dist                                   the same files as build/plc-VERSION-linux-amd64.tar.gz, with their sums
-# make test                                   the whole gate: that the rows of the examples are those of examples/, the table of crates is that of crates.txt, AUDIT names what is there, REFERENCE says what the sources say, DECISIONS lists what there is, pages link to what is there, GATE says what its table comes to and the pictures are those of examples/, then rt ci, and then what the program does that it has built
+# make test                                   the whole gate: that plc --version names these sources, the rows of the examples are those of examples/, the table of crates is that of crates.txt, AUDIT names what is there, REFERENCE says what the sources say, DECISIONS lists what there is, pages link to what is there, GATE says what its table comes to and the pictures are those of examples/, then rt ci, and then what the program does that it has built
 
 EXAMPLE ?= crossing
 IL = examples/$(EXAMPLE).il
@@ -29,10 +29,9 @@ EVENTS = examples/motor_$(SCHEDULE).json
 
 .PHONY: demo standby serve picture picture-run picture-schedule failover failover-machines field plc simulate install put uninstall deb dist test
 
-# make plc leaves the sum of the sources that it proved, and that of the program: so it's known whether build/plc is these
-# sources' proved program. Where it isn't, the same sources are built and run, unproved.
-STAMP = { find crates -name out -prune -o -type f \( -name '*.rt' -o -name '*.antt' \) -print | LC_ALL=C sort | tr '\n' '\0' | xargs -0 sha256sum crates.txt build/plc; } | sha256sum
-IS_PROVED = [ -x build/plc ] && [ -f build/plc.stamp ] && [ "$$($(STAMP))" = "$$(cat build/plc.stamp)" ]
+# make plc leaves build/plc.sum, the record of the program that it proved (tools/gate/sources --record): so it's known whether
+# build/plc is these sources' proved program. Where it isn't, the same sources are built and run, unproved.
+IS_PROVED = tools/user/is-proved --quiet --of "$$(tools/gate/sources)" build/plc
 
 demo:
 	@cat $(IL)
@@ -103,10 +102,11 @@ field:
 	@python3 examples/field/play.py build/plc $(TO) && echo "-- the same as a picture: $(TO)"
 
 plc:
+	tools/gate/sources --check
 	tools/prove/make-libraries $(if $(JOBS),--jobs $(JOBS)) plc
 	cd crates/plc && rt run -- --version
 	mkdir -p build && cp crates/plc/out/plc build/plc
-	@$(STAMP) > build/plc.stamp
+	tools/gate/sources --record build/plc > build/plc.sum
 
 simulate:
 	tools/prove/make-libraries $(if $(JOBS),--jobs $(JOBS)) sim_group
@@ -125,18 +125,19 @@ install:
 	@$(PROVED)
 	@$(MAKE) --no-print-directory put
 
-# What is installed, of any program: install, deb and dist do it with the proved one.
+# What is installed, of any program: install, deb and dist do it with the proved one, and its record beside it as BUILD.
 put: PLC ?= build/plc
 put:
 	mkdir -p $(BIN) $(SHARE)/man/man1 $(SHARE)/bash-completion/completions $(SHARE)/plc/examples/console $(SHARE)/plc/examples/field $(SHARE)/plc/examples/machines $(SHARE)/plc/examples/prometheus $(SHARE)/plc/docs/decisions $(SHARE)/plc/docs/pictures $(SHARE)/plc/tools/user/importing $(UNITS) $(USERS)
 	install -m 755 $(PLC) $(BIN)/plc
+	rm -f $(SHARE)/plc/BUILD; if tools/user/is-proved --quiet --by build/plc.sum $(PLC); then install -m 644 build/plc.sum $(SHARE)/plc/BUILD; fi
 	tools/user/man-page $(PLC) $(SHARE)/man/man1
 	tools/user/completion $(PLC) > $(SHARE)/bash-completion/completions/plc
 	install -m 644 README.md SECURITY.md CHANGELOG.md CONTRIBUTING.md crates.txt $(SHARE)/plc
 	install -m 644 docs/*.md $(SHARE)/plc/docs
 	install -m 644 docs/decisions/*.md $(SHARE)/plc/docs/decisions
 	install -m 644 docs/pictures/*.svg docs/pictures/*.png $(SHARE)/plc/docs/pictures
-	install -m 755 tools/user/number-lines tools/user/import $(SHARE)/plc/tools/user
+	install -m 755 tools/user/number-lines tools/user/import tools/user/is-proved $(SHARE)/plc/tools/user
 	install -m 644 tools/user/importing/*.py $(SHARE)/plc/tools/user/importing
 	install -m 644 examples/*.* $(SHARE)/plc/examples
 	install -m 644 examples/console/*.* $(SHARE)/plc/examples/console
@@ -159,6 +160,7 @@ dist:
 	tools/user/make-deb --tar build/plc
 
 test:
+	tools/gate/sources --check
 	tools/gate/example-rows --check
 	tools/gate/frame-rows --check
 	tools/gate/crates-table

@@ -19,9 +19,11 @@ mod showing;
 mod simulating;
 mod stores;
 mod tracing;
+mod version;
 
 ghost use Rattle.std.specs.Prelude.{IfOk, IfSome};
 ghost use Rattle.plc.specs.Asked.{IsAsAsked, IsLostAfterAMinute};
+ghost use Rattle.plc_words.specs.Asked.{IsToldOfWords};
 
 use crate::asking::{Asking, ask};
 use crate::carrying::{Carrying, carried, mode_of};
@@ -35,6 +37,7 @@ use crate::showing::{another_showing, notices_at, notices_of};
 use crate::simulating::{kinds_of, sim_group};
 use crate::stores::Formatted;
 use crate::tracing::{Life, close, next_life};
+use crate::version::PRINTED;
 use il_text::{Fault, tell};
 use io_image::NewList;
 use io_model::{Counted, CountedWrite};
@@ -207,12 +210,19 @@ fn called<W: Write, E: CountedWrite>(rt: &HostRuntime, out: &mut W, err: &mut E)
 {
     let given = match given_words(rt) {
         Ok(given) => given,
-        Err(error) => return Outcome::Done(tell_words(&error, out, err)),
+        Err(error) => return Outcome::Done(told(&error, out, err)),
     };
     match read_words(rt.alloc(), given.as_slice()) {
         Ok(words) => perform(rt, words, out, err),
-        Err(error) => Outcome::Done(tell_words(&error, out, err)),
+        Err(error) => Outcome::Done(told(&error, out, err)),
     }
+}
+
+/// Tells why words ask for no work, and answers the status: where they ask for the version, that is `PRINTED`.
+fn told<W: Write, E: CountedWrite>(error: &WordsError, out: &mut W, err: &mut E) -> u8
+    ensures { IsToldOfWords E.CountedWrite PRINTED.now error.now result (W.contents out.old) (W.contents out.new) err.old err.new }
+{
+    tell_words(error, PRINTED, out, err)
 }
 
 fn given_words(rt: &HostRuntime) -> Result<Vec<String>, WordsError> {

@@ -22,15 +22,23 @@ abbrev pub TellsUnshown : {W : Type 0} → CountedWriter W → W → W → Type 
 TellsUnshown w old new =
     WentOut w (codes "plc: device output\n") old new ⊎ WentOut w (fault_line faults.Memory) old new
 
--- why words ask for no work: the text of help on the output; else a line on the other stream
-abbrev pub IsToldOfWords : {W : Type 0}
-    → CountedWriter W → WordsError → ℕ → Option (List ℕ) → Option (List ℕ) → W → W → Type 0
-IsToldOfWords w (errors.Shown text) status out out_after old new =
-    ((status ≡ 0) × Appends out out_after (string_bytes text) × (new ≡ old))
+-- a text that was asked for: all of it on the output; else the line of why it wasn't shown on the other stream
+abbrev pub IsShown : {W : Type 0}
+    → CountedWriter W → List ℕ → ℕ → Option (List ℕ) → Option (List ℕ) → W → W → Type 0
+IsShown w text status out out_after old new =
+    ((status ≡ 0) × Appends out out_after text × (new ≡ old))
     ⊎ ((status ≡ 2) × TellsUnshown w old new)
-IsToldOfWords w (errors.Bad text) status out out_after old new =
+
+-- why words ask for no work: the text of help, or that of the version, on the output; else a line on the other stream
+abbrev pub IsToldOfWords : {W : Type 0}
+    → CountedWriter W → List ℕ → WordsError → ℕ → Option (List ℕ) → Option (List ℕ) → W → W → Type 0
+IsToldOfWords w version (errors.Shown text) status out out_after old new =
+    IsShown w (string_bytes text) status out out_after old new
+IsToldOfWords w version errors.Version status out out_after old new =
+    IsShown w version status out out_after old new
+IsToldOfWords w version (errors.Bad text) status out out_after old new =
     (status ≡ 3) × (out_after ≡ out) × WentOut w (string_bytes text) old new
-IsToldOfWords w errors.NotText status out out_after old new =
+IsToldOfWords w version errors.NotText status out out_after old new =
     (status ≡ 3) × (out_after ≡ out) × WentOut w (codes "error: a word is no text in UTF-8\n") old new
-IsToldOfWords w errors.Memory status out out_after old new =
+IsToldOfWords w version errors.Memory status out out_after old new =
     (status ≡ 2) × (out_after ≡ out) × WentOut w (fault_line faults.Memory) old new

@@ -1,7 +1,8 @@
 //! Why words ask for no work.
 
 ghost use Rattle.std.specs.Prelude.{◌≡◌};
-ghost use Rattle.plc_words.specs.declared.error.WordsError.TheVariants.{Memory};
+ghost use Rattle.clap.specs.Values.{kind_of};
+ghost use Rattle.plc_words.specs.declared.error.WordsError.TheVariants.{Memory, Version};
 
 use clap::error::ErrorKind;
 use std::alloc::{AllocError, Global};
@@ -11,9 +12,12 @@ use thiserror::Error;
 /// Why the words of a call ask for no work.
 #[derive(Debug, Drop, Error)]
 pub enum WordsError {
-    /// Help or the version was asked for: the text for standard output.
+    /// Help was asked for: the text for standard output.
     #[error("{0}")]
     Shown(String),
+    /// The version was asked for, which the program itself knows.
+    #[error("the version was asked for")]
+    Version,
     /// The words are no call of the program: the text for standard error.
     #[error("{0}")]
     Bad(String),
@@ -27,8 +31,13 @@ pub enum WordsError {
 
 impl WordsError {
     /// What `clap` answers in place of matches.
-    pub(crate) fn of(alloc: Global, error: &clap::Error) -> WordsError {
+    pub(crate) fn of(alloc: Global, error: &clap::Error) -> WordsError
+        ensures version { kind_of error.now ≡ ErrorKind.DisplayVersion → result ≡ Version }
+    {
         let kind = error.kind();
+        if kind == ErrorKind::DisplayVersion {
+            return WordsError::Version;
+        }
         match format!(in alloc; "{error}") {
             Ok(text) if !error.use_stderr() => WordsError::Shown(text),
             Ok(text) if kind != ErrorKind::OutOfMemory => WordsError::Bad(text),

@@ -2,7 +2,7 @@
 
 ghost use Rattle.std.specs.Prelude.{◌≡◌, OnOk};
 ghost use Rattle.std.specs.Io.KnownBytes.{Appends};
-ghost use Rattle.plc_words.specs.Asked.{IsToldOfWords, TellsUnshown};
+ghost use Rattle.plc_words.specs.Asked.{IsShown, IsToldOfWords, TellsUnshown};
 
 use crate::error::WordsError;
 use il_text::{Fault, put, tell};
@@ -14,15 +14,19 @@ use std::io::Write;
 const BAD_WORDS: u8 = 3;
 
 /// Tells why words ask for no work, and answers the status: 0 where help or the version was shown, 3 where the words
-/// are bad, and 2 where standard output failed or memory ran out.
-pub fn tell_words<W: Write, E: CountedWrite>(error: &WordsError, out: &mut W, err: &mut E) -> u8
-    ensures { IsToldOfWords E.CountedWrite error.now result (W.contents out.old) (W.contents out.new) err.old err.new }
+/// are bad, and 2 where standard output failed or memory ran out. `version` is all that is printed where the version is
+/// asked for.
+pub fn tell_words<W: Write, E: CountedWrite>(
+    error: &WordsError,
+    version: &str,
+    out: &mut W,
+    err: &mut E,
+) -> u8
+    ensures { IsToldOfWords E.CountedWrite version.now error.now result (W.contents out.old) (W.contents out.new) err.old err.new }
 {
     match error {
-        WordsError::Shown(text) => match shown(text.as_str(), out) {
-            Ok(()) => 0,
-            Err(error) => tell_unshown(&error, err),
-        },
+        WordsError::Shown(text) => show(text.as_str(), out, err),
+        WordsError::Version => show(version, out, err),
         WordsError::Bad(text) => {
             let _ = put(err, text.as_str().as_bytes());
             BAD_WORDS
@@ -32,6 +36,16 @@ pub fn tell_words<W: Write, E: CountedWrite>(error: &WordsError, out: &mut W, er
             BAD_WORDS
         }
         WordsError::Memory => tell(Fault::Memory, err),
+    }
+}
+
+/// Shows a text on standard output, and answers the status.
+fn show<W: Write, E: CountedWrite>(text: &str, out: &mut W, err: &mut E) -> u8
+    ensures { IsShown E.CountedWrite text.now result (W.contents out.old) (W.contents out.new) err.old err.new }
+{
+    match shown(text, out) {
+        Ok(()) => 0,
+        Err(error) => tell_unshown(&error, err),
     }
 }
 
