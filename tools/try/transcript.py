@@ -16,7 +16,7 @@ import time
 
 LONGEST = 300       # seconds in which a call has to end
 WAIT = 30           # seconds in which what it started has to have said what stands there
-LOOKS = ('grep ', 'tail ', 'cat ', 'curl ', 'journalctl ', 'head ', 'ls ', 'plc show ', 'mbpoll -q -1')   # may be done again
+LOOKS = ('for i in 1 2 3; do curl ', 'grep ', 'tail ', 'cat ', 'curl ', 'journalctl ', 'head ', 'ls ', 'plc show ', 'mbpoll -q -1')   # may be done again
 PROMPT = re.compile(r'^([a-z]+\d*[$#]|\$) (.*)$')
 NOISE = re.compile(r'^\[\d+\][ +-] |^\[\d+\] \d+$|^bash: (line \d+|warning)|^\S+: line \d+: +\d+ (Killed|Terminated)|^\s*\d+ (Killed|Terminated)')
 
@@ -58,7 +58,7 @@ def calls(block):
 def steps(text):
     """What a page says to do, in its order: ('file', name, text) and ('call', prompt, call, lines)."""
     for above, block in blocks(text):
-        name = re.search(r'`([\w./-]+)`:$', above.strip())
+        name = re.search(r'`([\w./@-]+)`:$', above.strip())
         if is_session(block):
             for prompt, call, lines in calls(block):
                 yield 'call', prompt, call, [line for line in lines if line]

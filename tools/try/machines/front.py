@@ -53,7 +53,7 @@ class Tunnel(Namespaces):
         for machine in range(self.size):
             path = os.path.join(self.work, f'tunnel-{machine}.conf')
             with open(path, 'w') as file:
-                file.write('foreground = yes\nsyslog = no\ndebug = warning\npid =\n'
+                file.write('syslog = no\ndebug = warning\npid =\n'
                            + example(f'tunnel-{machine}.conf').replace(TLS, self.work))
             with open(os.path.join(self.work, f'lines-{machine}'), 'w') as lines:
                 self.ends.append(subprocess.Popen([*self.ahead(machine), 'stunnel4', path], stdin=subprocess.DEVNULL,
