@@ -19,7 +19,7 @@ use Rattle.plc_epochs.proofs.GoingOn.{either}
 use Rattle.laws_epochs.specs.Machines.{Move, Takes, TimeHasPassed, Machines, AreMoves, after_moves, at_rest}
 use Rattle.laws_epochs.specs.Beginnings.{HasCome, MajorityIsPast}
 use Rattle.laws_epochs.proofs.Changes.{has_heard, WasHeard}
-use Rattle.laws_epochs.proofs.Standing.{GoingOn, Stands, first, over, split, never_back}
+use Rattle.laws_epochs.proofs.Standing.{CameIn, Fine, GoingOn, Stands, first, over, split, never_back}
 
 -- ---- counting
 
@@ -34,7 +34,7 @@ shift : (test : ℕ → Bool) (n : ℕ) → how_many test (suc n) ≡ cond (test
 shift test zero = omega arith
 shift test (suc n) = omega (arith, shift test n)
 
-no_fewer : (xs : List (Option ℕ)) (n : ℕ) → ((j : ℕ) → has_heard xs j ≡ true → j < n) → count_by is_some xs ≤ how_many (has_heard xs) n
+pub no_fewer : (xs : List (Option ℕ)) (n : ℕ) → ((j : ℕ) → has_heard xs j ≡ true → j < n) → count_by is_some xs ≤ how_many (has_heard xs) n
 no_fewer [] n low = omega arith
 no_fewer (None ∷ xs) zero low = omega (arith, counted_from xs 0, no_fewer xs zero (λ j h. absurd (omega (arith, low (suc j) h))))
 no_fewer (Some x ∷ xs) zero low = absurd (omega (arith, low 0 refl))
@@ -90,7 +90,7 @@ begins now epoch a b h = begins_in a.phase now epoch a b (steps.Begins epoch) re
 -- ---- the majority
 
 -- the one that begins, and those that it has heard
-abbrev who : ℕ → List (Option ℕ) → ℕ → Bool
+abbrev pub who : ℕ → List (Option ℕ) → ℕ → Bool
 who i heard j = eqb j i || has_heard heard j
 
 or_second : (s t : Bool) → t ≡ true → (s || t) ≡ true
@@ -100,27 +100,32 @@ or_second false t h = h
 who_hears : (i j : ℕ) (heard : List (Option ℕ)) → has_heard heard j ≡ true → who i heard j ≡ true
 who_hears i j heard h = or_second (eqb j i) (has_heard heard j) h
 
-module _ (f : ℕ) (w : Machines) (i : ℕ) (epoch : Epoch) (a : ColdStart) (s : Stands f w) (runs : (w.at i).runs ≡ Some a) (b : Begins a epoch) where
-  heard_came : (j : ℕ) → has_heard b.heard j ≡ true → (HasCome epoch (w.at j).store) × (j ≡ i → ⊥) × (j < group_size f)
-  heard_came j h = (s.each i a runs).heard epoch j (subst (λ p. WasHeard p epoch j) (sym b.phase) (refl, h))
-
-  came : (j : ℕ) → who i b.heard j ≡ true → HasCome epoch (w.at j).store
-  came j h = elim (or_cases (eqb j i) (has_heard b.heard j) h) [
-    | inl is ↦ subst (λ k. HasCome epoch (w.at k).store) (sym (eqb-true j i is)) ((s.each i a runs).greets epoch (ap Table.greeting_in b.phase))
-    | inr heard ↦ (heard_came j heard).0
-  ]
+module _ (f i : ℕ) (Came : ℕ → Epoch → Type 0) (epoch : Epoch) (store : Kept) (a : ColdStart) (fine : Fine f Came i store a) (b : Begins a epoch) where
+  pub heard_so : (j : ℕ) → has_heard b.heard j ≡ true → (Came j epoch) × (j ≡ i → ⊥) × (j < group_size f)
+  heard_so j h = fine.heard epoch j (subst (λ p. WasHeard p epoch j) (sym b.phase) (refl, h))
 
   unheard : (t : Bool) → has_heard b.heard i ≡ t → has_heard b.heard i ≡ false
-  unheard true e = absurd ((heard_came i e).1 refl)
+  unheard true e = absurd ((heard_so i e).1 refl)
   unheard false e = e
 
-  many : f + 1 ≤ how_many (who i b.heard) (group_size f)
+  pub many : f + 1 ≤ how_many (who i b.heard) (group_size f)
   many =
-      let counted : count_by is_some b.heard ≤ how_many (has_heard b.heard) (group_size f) = no_fewer b.heard (group_size f) (λ j h. (heard_came j h).2) in
-      let enough : f ≤ count_by is_some b.heard = subst (λ n. n ≤ count_by is_some b.heard) (s.each i a runs).group b.many in
+      let counted : count_by is_some b.heard ≤ how_many (has_heard b.heard) (group_size f) = no_fewer b.heard (group_size f) (λ j h. (heard_so j h).2) in
+      let enough : f ≤ count_by is_some b.heard = subst (λ n. n ≤ count_by is_some b.heard) fine.group b.many in
       let own : who i b.heard i ≡ true = ap (λ t. t || has_heard b.heard i) (eq-eqb i i refl) in
-      let more = one_more (has_heard b.heard) (who i b.heard) i (group_size f) (s.each i a runs).within (unheard (has_heard b.heard i) refl) own (λ j low h. who_hears i j b.heard h) in
+      let more = one_more (has_heard b.heard) (who i b.heard) i (group_size f) fine.within (unheard (has_heard b.heard i) refl) own (λ j low h. who_hears i j b.heard h) in
       omega (arith, counted, enough, more)
+
+  -- its own store has come to the epoch
+  pub own_came : HasCome epoch store
+  own_came = fine.greets epoch (ap Table.greeting_in b.phase)
+
+  -- so has each of them, where that's so of those that it has heard
+  pub all_came : (Has : ℕ → Type 0) → Has i → ((j : ℕ) → has_heard b.heard j ≡ true → Has j) → (j : ℕ) → who i b.heard j ≡ true → Has j
+  all_came Has own others j h = elim (or_cases (eqb j i) (has_heard b.heard j) h) [
+    | inl is ↦ subst Has (sym (eqb-true j i is)) own
+    | inr heard ↦ others j heard
+  ]
 
 pub majority : (f i now : ℕ) (stores : ℕ → Kept) (early : List Move) (epoch : Epoch) (becomes : ColdStart) → GoingOn
     → AreMoves f (at_rest stores) (early ++ Takes i (TimeHasPassed now) (steps.Begins epoch) becomes ∷ [])
@@ -132,10 +137,11 @@ majority f i now stores early epoch becomes goes right =
     let w : Machines = after_moves f (at_rest stores) early in
     let may = parts.1.0 in
     let b : Begins may.0 epoch = begins now epoch may.0 becomes may.3 in
+    let fine : Fine f (CameIn w) i (w.at i).store may.0 = before.0.each i may.0 may.1 in
     record {
       who = who i b.heard;
-      many = many f w i epoch may.0 before.0 may.1 b;
-      past = λ late j all low h. never_back f stores early (move ∷ late) j epoch goes all (came f w i epoch may.0 before.0 may.1 b j h);
+      many = many f i (CameIn w) epoch (w.at i).store may.0 fine b;
+      past = λ late j all low h. never_back f stores early (move ∷ late) j epoch goes all (all_came f i (CameIn w) epoch (w.at i).store may.0 fine b (λ k. HasCome epoch (w.at k).store) (own_came f i (CameIn w) epoch (w.at i).store may.0 fine b) (λ k heard. (heard_so f i (CameIn w) epoch (w.at i).store may.0 fine b k heard).0) j h);
     }
 
 -- ---- one image

@@ -38,7 +38,7 @@ is_hello _ = false
 pub no_hello : (g : Greeting) (e : Epoch) → is_hello g ≡ false → g ≡ Hello e → ⊥
 no_hello g e silent h = false≢true (sym silent ∙ ap is_hello h)
 
-abbrev heard_in : Option (Option ℕ) → Bool
+abbrev pub heard_in : Option (Option ℕ) → Bool
 heard_in (Some came) = is_some came
 heard_in None = false
 

@@ -1,9 +1,9 @@
 -- Which epoch is later, as an order, and stores that go on.
-use Rattle.std.proofs.Common.{◌≡◌, ℕ, true, List, ◌∷◌, Option, Some, None, Ok, refl, sym, ap, ◌∙◌, subst, inl, inr}
+use Rattle.std.proofs.Common.{◌≡◌, ℕ, true, false, List, [], ◌∷◌, Option, Some, None, Ok, refl, sym, ap, ◌∙◌, subst, inl, inr}
 use Rattle.std.proofs.lemmas.Bool.{false≢true, and_parts, eqb-true}
 use Rattle.std.specs.Cmp.{IsTotalOrder}
-use Rattle.std.specs.Cmp.Lexicographic.{slice_cmp, on_texts, bytes_decides}
-use Rattle.std.specs.Ordering.{is_gt, nat_cmp, on, ordering_reverse, ordering_then}
+use Rattle.std.specs.Cmp.Lexicographic.{slice_cmp, on_texts, bytes_decides, texts_ties}
+use Rattle.std.specs.Ordering.{is_eq, is_gt, nat_cmp, on, ordering_reverse, ordering_then}
 use Rattle.std.specs.declared.cmp.Ordering.{Ordering}
 use Rattle.std.specs.declared.cmp.Ordering.TheVariants.{Less, Equal, Greater}
 use Rattle.net_hello.specs.declared.hello.Epoch.{Epoch}
@@ -43,6 +43,28 @@ later_chain a b c h g =
     let l : compared c a ≡ Less = ordered.trans c b a (below b c g) (below a b h) in
     by_key (nat_cmp a.number c.number) a.image c.image ∙ ap is_gt (ordered.antisymm a c ∙ ap ordering_reverse l)
 
+-- ---- of two epochs neither is later, or one is
+
+abbrev first_of : List ℕ → ℕ
+first_of [] = 0
+first_of (x ∷ xs) = x
+
+abbrev rest_of : List ℕ → List ℕ
+rest_of [] = []
+rest_of (x ∷ xs) = xs
+
+not_later_by : (o : Ordering) (a b : Epoch) → compared a b ≡ o → is_gt o ≡ false → IsNoEarlier b a
+not_later_by Less a b is h = inr (by_key (nat_cmp b.number a.number) b.image a.image ∙ ap is_gt (ordered.antisymm b a ∙ ap ordering_reverse is))
+not_later_by Equal a b is h =
+    let same : key a ≡ key b = (bytes_decides (key a) (key b)).0 (texts_ties (key a) (key b) ∙ ap is_eq is) in
+    let number : b.number ≡ a.number = sym (ap first_of same) in
+    let image : b.image ≡ a.image = sym (ap rest_of same) in
+    inl (λ i. record { number = number i; image = image i })
+not_later_by Greater a b is h = absurd (false≢true (sym h))
+
+pub not_later : (a b : Epoch) → is_later a b ≡ false → IsNoEarlier b a
+not_later a b h = not_later_by (compared a b) a b refl (sym (by_key (nat_cmp a.number b.number) a.image b.image) ∙ h)
+
 pub no_earlier_chain : (a b c : Epoch) → IsNoEarlier a b → IsNoEarlier b c → IsNoEarlier a c
 no_earlier_chain a b c (inl e) h = subst (λ x. IsNoEarlier x c) (sym e) h
 no_earlier_chain a b c (inr l) (inl e) = inr (subst (λ x. is_later a x ≡ true) e l)
@@ -62,12 +84,12 @@ come_on (keeps.Begun own) (keeps.Begun other) epoch g h = no_earlier_chain other
 
 -- ---- an epoch that was begun
 
-later_than_itself : (e : Epoch) → is_later e e ≡ true → ⊥
+pub later_than_itself : (e : Epoch) → is_later e e ≡ true → ⊥
 later_than_itself e h =
     let up : compared e e ≡ Greater = greater (compared e e) (sym (by_key (nat_cmp e.number e.number) e.image e.image) ∙ h) in
     false≢true (ap is_gt (sym (below e e h) ∙ up))
 
-later_yet : (a b c : Epoch) → is_later a b ≡ true → IsNoEarlier b c → is_later a c ≡ true
+pub later_yet : (a b c : Epoch) → is_later a b ≡ true → IsNoEarlier b c → is_later a c ≡ true
 later_yet a b c l (inl e) = subst (λ x. is_later a x ≡ true) e l
 later_yet a b c l (inr m) = later_chain a b c l m
 

@@ -4,3 +4,6 @@ pub mod Standing
 pub mod Beginning
 pub mod Once
 pub mod Waiting
+pub mod Losing
+pub mod LosingMajorities
+pub mod WorkedLosses

@@ -69,7 +69,7 @@ starts_in (Beginning own) e store a b step was is h = begun_now own e store a b 
 starts_in (Entering own heard) e store a b step was is h = entered_now own e heard store a b step is h
 starts_in _ e store a b step was is h = other_step step e is (ap started_by h.0)
 
-starts_now : (e : Epoch) (store : Kept) (a b : ColdStart) → Table.Stores store a (steps.Starts e) b → BeginsNow e store a b
+pub starts_now : (e : Epoch) (store : Kept) (a b : ColdStart) → Table.Stores store a (steps.Starts e) b → BeginsNow e store a b
 starts_now e store a b h = starts_in a.phase e store a b (steps.Starts e) refl refl h
 
 -- ---- it has begun it, and is not beginning it

@@ -77,10 +77,10 @@ pub record Fine (f : ℕ) (Came : ℕ → Epoch → Type 0) (i : ℕ) (store : K
   pub heard : (e : Epoch) (j : ℕ) → WasHeard a.phase e j → (Came j e) × (j ≡ i → ⊥) × (j < group_size f)
   pub unfrozen : a.place.is_marked ≡ true → IsUnfrozen a.phase
 
-abbrev FineAt : (f : ℕ) → (ℕ → Epoch → Type 0) → ℕ → Machine → Type 0
+abbrev pub FineAt : (f : ℕ) → (ℕ → Epoch → Type 0) → ℕ → Machine → Type 0
 FineAt f Came i m = (a : ColdStart) → m.runs ≡ Some a → Fine f Came i m.store a
 
-abbrev CameIn : Machines → ℕ → Epoch → Type 0
+abbrev pub CameIn : Machines → ℕ → Epoch → Type 0
 CameIn w j e = HasCome e (w.at j).store
 
 pub record Stands (f : ℕ) (w : Machines) : Type 0 where
@@ -115,10 +115,10 @@ module _ (f : ℕ) where
       (record { each = each; said = λ n x h. risen x.0 x.1 (s.said n x h) }, risen)
 
   -- the machine is now this value
-  now : (Came : ℕ → Epoch → Type 0) (i : ℕ) (store : Kept) (b : ColdStart) → Fine f Came i store b → FineAt f Came i (record { store = store; runs = Some b })
+  pub now : (Came : ℕ → Epoch → Type 0) (i : ℕ) (store : Kept) (b : ColdStart) → Fine f Came i store b → FineAt f Came i (record { store = store; runs = Some b })
   now Came i store b fine a runs = subst (λ x. Fine f Came i store x) (same_Some b a runs) fine
 
-  down : (Came : ℕ → Epoch → Type 0) (i : ℕ) (store : Kept) → FineAt f Came i (record { store = store; runs = None })
+  pub down : (Came : ℕ → Epoch → Type 0) (i : ℕ) (store : Kept) → FineAt f Came i (record { store = store; runs = None })
   down Came i store a runs = absurd (false≢true (ap is_some runs))
 
   -- ---- a process starts
@@ -147,7 +147,7 @@ module _ (f : ℕ) where
   starts_unfrozen (keeps.Entered own) nonce since = tt
   starts_unfrozen (keeps.Begun own) nonce since = refl
 
-  starts : (Came : ℕ → Epoch → Type 0) (i : ℕ) (store : Kept) (place : Place) (image : List ℕ) (nonce since : ℕ) (b : ColdStart) → i < group_size f → place.number ≡ i → place.config.f ≡ f
+  pub starts : (Came : ℕ → Epoch → Type 0) (i : ℕ) (store : Kept) (place : Place) (image : List ℕ) (nonce since : ℕ) (b : ColdStart) → i < group_size f → place.number ≡ i → place.config.f ≡ f
       → StartsAs place store image nonce since b → Fine f Came i store b
   starts Came i store place image nonce since b within number group h =
       let is : phase_from store nonce since ≡ b.phase = sym h.2 in record {
@@ -199,7 +199,7 @@ module _ (f : ℕ) where
 
   -- ---- its store gets what it was to have
 
-  write_up : (Came : ℕ → Epoch → Type 0) (i : ℕ) (store : Kept) (r : Option ColdStart) → ((a : ColdStart) → r ≡ Some a → Fine f Came i store a) → (e : Epoch) → HasCome e store → HasCome e (to_write store r)
+  pub write_up : (Came : ℕ → Epoch → Type 0) (i : ℕ) (store : Kept) (r : Option ColdStart) → ((a : ColdStart) → r ≡ Some a → Fine f Came i store a) → (e : Epoch) → HasCome e store → HasCome e (to_write store r)
   write_up Came i store None fine e h = h
   write_up Came i store (Some a) fine e h = (fine a refl).ahead e h
 
@@ -214,7 +214,7 @@ module _ (f : ℕ) where
     unfrozen = k.unfrozen;
   }
 
-  writes : (Came : ℕ → Epoch → Type 0) (i : ℕ) (store : Kept) (r : Option ColdStart) → ((a : ColdStart) → r ≡ Some a → Fine f Came i store a) → FineAt f Came i (record { store = to_write store r; runs = r })
+  pub writes : (Came : ℕ → Epoch → Type 0) (i : ℕ) (store : Kept) (r : Option ColdStart) → ((a : ColdStart) → r ≡ Some a → Fine f Came i store a) → FineAt f Came i (record { store = to_write store r; runs = r })
   writes Came i store None fine a runs = absurd (false≢true (ap is_some runs))
   writes Came i store (Some b) fine a runs = subst (λ x. Fine f Came i (kept_in b.phase) x) (same_Some b a runs) (written Came i store b (fine b refl))
 

@@ -1,2 +1,4 @@
 pub mod Machines
 pub mod Beginnings
+pub mod LostDisks
+pub mod WorkedLosses

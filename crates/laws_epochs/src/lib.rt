@@ -26,10 +26,18 @@
 //! is presupposed: they may be forged. No time is, and no replica: with both, `laws_epoch_ends` has that f+1 machines are
 //! frozen at one moment where one of them gives an epoch up by itself.
 //!
-//! Only tested, or argued: that a machine whose disk was lost waits above each epoch in which it took part.
+//! Where disks are lost, too (`specs/LostDisks`), each at any moment, and its machine gets a store that waits:
+//!
+//! - As a machine begins an epoch, f+1 keep to it for good, though their own disks may be lost later: none of them
+//!   takes part in an epoch before it again (`majorities_keep_to_what_they_begin`).
+//! - A machine whose disk is lost waits above each epoch that it began (`who_lost_its_disk_waits_above_what_it_began`),
+//!   and begins none of them a second time (`no_epoch_is_begun_twice_though_disks_are_lost`).
+//!
+//! Two premises more, of hellos: a machine hears none that was said before it lost its own disk, and as it begins an
+//! epoch, each machine by whose hello it does so hasn't lost its disk since (`HellosHold`).
 #![tactic(auto)]
 
-ghost use Rattle.std.specs.Prelude.{◌≡◌, ℕ, true, Some, List, [], ◌∷◌, ◌++◌, slice_get};
+ghost use Rattle.std.specs.Prelude.{◌≡◌, ℕ, ◌≤◌, true, Some, List, [], ◌∷◌, ◌++◌, slice_get};
 ghost use Rattle.net_hello.specs.declared.hello.Epoch.{Epoch};
 ghost use Rattle.plc_epochs.specs.declared.kept.Kept.{Kept};
 ghost use Rattle.plc_epochs.specs.declared.cold_start.ColdStart.{ColdStart};
@@ -38,6 +46,9 @@ ghost use Rattle.plc_epochs.specs.Table as table;
 ghost use Rattle.laws_epochs.specs.Machines.{Move, Takes, StoreHas, TimeHasPassed, AreMoves, after_moves, at_rest};
 ghost use Rattle.laws_epochs.specs.Beginnings.{BeganBefore, HasCome, IsPast, MajorityIsPast, IsUnfrozen, IsPlaced};
 ghost use Rattle.laws_epochs.specs.Beginnings.{TakesPartBeyond, WaitsAbove};
+ghost use Rattle.laws_epochs.specs.LostDisks.{Event, Moves, AreEvents, KeepsTo, MajorityKeeps, after_events};
+ghost use Rattle.laws_epochs.specs.LostDisks.{with_disks};
+ghost use Rattle.laws_epochs.specs.WorkedLosses.{WorkedLosses};
 
 /// A machine begins an epoch only once f+1 machines have come to that epoch, and have left all before it for good. So an
 /// epoch before has no majority any more, however it was given up, by evidence or by hand, and none comes back to it.
@@ -118,3 +129,41 @@ pub fn machines_know_their_places()
 {
     plc_epochs::no_store_goes_back();
 }
+
+/// As a machine begins an epoch, f+1 machines keep to it, whatever disks are lost later, theirs among them: they take
+/// part in no epoch before it, and one whose disk is lost waits above it, or above a later one.
+pub fn majorities_keep_to_what_they_begin()
+    ensures { (f machine now : ℕ) (stores : ℕ → Kept) (early : List Event) (epoch : Epoch) (becomes : ColdStart)
+        → AreEvents f (with_disks stores)
+        (early ++ Moves (Takes machine (TimeHasPassed now) (Begins epoch) becomes) ∷ [])
+        → MajorityKeeps f stores early (Moves (Takes machine (TimeHasPassed now) (Begins epoch) becomes)) epoch }
+{
+    plc_epochs::no_store_goes_back();
+}
+
+/// A machine that has begun an epoch keeps to it, though its disk may be lost: it waits above that epoch, or above a
+/// later one, and takes part in none before it.
+pub fn who_lost_its_disk_waits_above_what_it_began()
+    ensures { (f i : ℕ) (stores : ℕ → Kept) (early late : List Event) (epoch : Epoch) (becomes : ColdStart)
+        → AreEvents f (with_disks stores) (early ++ Moves (Takes i StoreHas (Starts epoch) becomes) ∷ late)
+        → KeepsTo epoch ((after_events f (with_disks stores)
+        (early ++ Moves (Takes i StoreHas (Starts epoch) becomes) ∷ late)).machines.at i) }
+{
+    plc_epochs::no_store_goes_back();
+}
+
+/// No machine begins an epoch twice, though its disk may be lost in between. So in the run that an epoch is, each
+/// machine has at most one replica that starts as new.
+pub fn no_epoch_is_begun_twice_though_disks_are_lost()
+    ensures { (f i : ℕ) (stores : ℕ → Kept) (early late : List Event) (epoch : Epoch) (first second : ColdStart)
+        → AreEvents f (with_disks stores) (early ++ (Moves (Takes i StoreHas (Starts epoch) first)
+        ∷ (late ++ Moves (Takes i StoreHas (Starts epoch) second) ∷ []))) → ⊥ }
+{
+    plc_epochs::no_store_goes_back();
+}
+
+/// What the definitions compute for worked events: a machine begins an epoch, loses its disk, hears both others, and
+/// waits above that epoch. So the three laws above speak of them.
+pub fn worked_losses()
+    ensures { (low : 1 ≤ 1) (high : 1 ≤ 3) → WorkedLosses low high }
+{}
