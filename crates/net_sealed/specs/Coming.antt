@@ -59,15 +59,34 @@ abbrev pub bodies_in : List (List ℕ × List ℕ) → List ℕ
 bodies_in [] = []
 bodies_in ((body, sum) ∷ records) = body ++ bodies_in records
 
--- These records were opened, each under the next number, by the sum that the key makes of it in that place; what was
--- given, and what is left to give, are their bodies, behind what was left before.
-pub record Reads (before after : Coming) (given : List ℕ) : Type 0 where
+-- These records stand at the front of the bytes, one behind the other and nothing between: of each the length of its
+-- body in two bytes, the body, and its sum. This is what stands behind them.
+abbrev pub StandFirst : List ℕ → List (List ℕ × List ℕ) → List ℕ → Type 0
+StandFirst bytes [] rest = bytes ≡ rest
+StandFirst bytes ((body, sum) ∷ records) rest = (high : ℕ) × (low : ℕ) × (behind : List ℕ)
+    × (bytes ≡ high ∷ low ∷ (body ++ (sum ++ behind))) × (length body ≡ 256 * high + low)
+    × StandFirst behind records rest
+
+-- These bytes were read. Of them, behind what waited before, these records stand first, and the others wait. Each was
+-- opened under the next number, by the sum that stands behind it, which is the one that the key makes in that place.
+-- What was given, and what is left to give, are their bodies, behind what was left before.
+pub record Reads (left left' : Option (List ℕ)) (before after : Coming) (given : List ℕ) : Type 0 where
+  pub came : List ℕ
+  pub read : Consumes left left' came
   pub records : List (List ℕ × List ℕ)
+  pub stand : StandFirst (before.waiting ++ came) records after.waiting
   pub opened : AreOpened before.opener.key before.opener.side before.opener.next records
   pub bodies : before.opened ++ bodies_in records ≡ given ++ after.opened
   pub key : after.opener.key ≡ before.opener.key
   pub side : after.opener.side ≡ before.opener.side
   pub next : after.opener.next ≡ before.opener.next + length records
+
+-- it was so read, unless the stream is over: then nothing was given
+abbrev pub HasRead : {A : Type 0} → Result A Stop → Option (List ℕ) → Option (List ℕ) → Coming → Coming → List ℕ
+    → Type 0
+HasRead (Ok went) left left' before after given = Reads left left' before after given
+HasRead (Err ForNow) left left' before after given = Reads left left' before after given
+HasRead (Err ForGood) left left' before after given = given ≡ []
 
 -- what was given to the front of these bytes
 abbrev pub given_in : Result ℕ Stop → List ℕ → List ℕ
@@ -79,6 +98,12 @@ pub record Fills (left left' : Option (List ℕ)) (before after : Coming) : Type
   pub came : List ℕ
   pub read : Consumes left left' came
   pub waiting : after.waiting ≡ before.waiting ++ came
+
+-- Bytes were read behind those that wait, none where it stopped; or memory ran out for them.
+abbrev pub HasFilled : Result (Unit {0}) Blocked → Option (List ℕ) → Option (List ℕ) → Coming → Coming → Type 0
+HasFilled (Ok went) left left' before after = Fills left left' before after
+HasFilled (Err (Stopped stop)) left left' before after = Fills left left' before after
+HasFilled (Err Memory) left left' before after = Unit {0}
 
 -- the pauses of what is read or written, and how often it was told that nothing goes any more
 abbrev pub stops_of : Stops → ℕ → Stops

@@ -1,8 +1,8 @@
 //! What comes in of a stream of sealed records.
 
 ghost use Rattle.std.specs.Prelude.{◌≡◌, ◌≤◌, ◌<◌, [], false, true, length, take, IfOk, OnErr, OnOk, Ok};
-ghost use Rattle.net_sealed.specs.Coming.{Fills, Gives, HasCounted, IsFront, OpensNext, front_of};
-ghost use Rattle.net_sealed.specs.declared.incoming.Front.TheVariants.{Whole};
+ghost use Rattle.net_sealed.specs.Coming.{Gives, HasCounted, HasFilled, IsFront, OpensNext, front_of};
+ghost use Rattle.net_sealed.specs.declared.incoming.Front.TheVariants.{Partial, Whole};
 
 use net_ends::{NonBlockingRead, Stop};
 use net_keys::{Opener, RecordFault, SUM};
@@ -140,6 +140,7 @@ impl Incoming {
     pub(crate) fn open_next(&mut self) -> Result<bool, RecordFault>
         ensures opened { result ≡ Ok true → OpensNext self.old self.new }
         ensures partial { result ≡ Ok false → self.new ≡ self.old }
+        ensures more { result ≡ Ok false → front_of self.old.waiting ≡ Partial }
         ensures err { OnErr result (self.new ≡ self.old) }
     {
         match front_of(&self.bytes[self.next..]) {
@@ -153,11 +154,12 @@ impl Incoming {
     }
 
     /// Reads a piece, where all that was opened is given.
+    #[tactic(auto, using(crate::proofs::Readings::fills_none))]
     pub(crate) fn fill<R: NonBlockingRead>(&mut self, reader: &mut R) -> Result<(), Blocked>
         requires { self.old.opened ≡ [] }
         ensures opener { self.new.opener ≡ self.old.opener }
         ensures opened { self.new.opened ≡ [] }
-        ensures came { OnOk result (Fills (R.left reader.old) (R.left reader.new) self.old self.new) }
+        ensures came { HasFilled result (R.left reader.old) (R.left reader.new) self.old self.new }
         ensures stops { HasCounted result (R.stops reader.old) (R.stops reader.new) }
     {
         self.bytes.drain(..self.next);

@@ -13,11 +13,13 @@
 //! records.is_forged(); // whether it's over because a record was forged or damaged
 //! ```
 //!
-//! Proved: bytes are given only of a body that was opened under the next number, with the sum that stood behind it
-//! (`specs/Coming`), and a record that isn't so, or is longer than any that is sealed, ends the connection for good.
-//! What is taken is sealed under the next number, and its bytes wait until they are written (`specs/Going`). Of a whole
+//! Proved: of the bytes that came, behind those that waited, whole records stand first and nothing between, each opened
+//! under the next number by the sum that stands behind its body. What is given are their bodies, in order, and the
+//! other bytes wait (`specs/Coming`: `Reads`). For more bytes it waits only where no whole record is there. What is
+//! taken is sealed under the next number, and its bytes wait until they are written (`specs/Going`). Of a whole
 //! connection it follows that only what was sealed is opened, or a record was forged (`only_sealed_is_heard` of
-//! `net_keys`); what that means of messages is in `laws_keys`.
+//! `net_keys`); what that means of messages is in `laws_keys`. By its code alone: that a record which can't be opened, or
+//! is longer than any that is sealed, ends the connection for good. Tested: that (rows of `tests_bytes`).
 #![tactic(auto)]
 
 mod incoming;

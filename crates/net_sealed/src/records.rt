@@ -3,7 +3,7 @@
 ghost use Rattle.std.specs.Prelude.{◌≡◌, ◌≤◌, ◌<◌, [], length, take, IfOk, OnOk, None};
 ghost use Rattle.net_ends.specs.Ends.{Counts, IsCounted};
 ghost use Rattle.net_ends.specs.declared.non_blocking.Stop.TheVariants.{ForGood};
-ghost use Rattle.net_sealed.specs.Coming.{Reads, given_in, stops_of};
+ghost use Rattle.net_sealed.specs.Coming.{HasRead, given_in, stops_of};
 ghost use Rattle.net_sealed.specs.Going.{SealsNext};
 
 use crate::incoming::{Blocked, Incoming, MOST_BODY};
@@ -89,9 +89,11 @@ impl<T> SealedRecords<T> {
 
 impl<T: NonBlockingRead> SealedRecords<T> {
     /// Reads a piece, where all that was opened is given.
+    #[tactic(auto, using(crate::proofs::Readings::reads_filled))]
     fn fill(&mut self) -> Result<(), Stop>
         requires { self.old.incoming.opened ≡ [] }
-        ensures reads { Reads self.old.incoming self.new.incoming [] }
+        ensures reads { HasRead result (T.left self.old.inner) (T.left self.new.inner) self.old.incoming
+            self.new.incoming [] }
         ensures stops { Counts result (stops_of (T.stops self.old.inner) self.old.ends)
             (stops_of (T.stops self.new.inner) self.new.ends) }
     {
@@ -103,10 +105,11 @@ impl<T: NonBlockingRead> SealedRecords<T> {
     }
 
     /// Opens the next record, where all that was opened is given; reads a piece where it isn't whole.
-    #[tactic(auto, using(crate::proofs::Readings::reads_next, crate::proofs::Readings::reads_same))]
+    #[tactic(auto, using(crate::proofs::Readings::reads_next))]
     fn go_on(&mut self) -> Result<(), Stop>
         requires { self.old.incoming.opened ≡ [] }
-        ensures reads { Reads self.old.incoming self.new.incoming [] }
+        ensures reads { HasRead result (T.left self.old.inner) (T.left self.new.inner) self.old.incoming
+            self.new.incoming [] }
         ensures stops { Counts result (stops_of (T.stops self.old.inner) self.old.ends)
             (stops_of (T.stops self.new.inner) self.new.ends) }
     {
@@ -124,11 +127,13 @@ impl<T: NonBlockingRead> SealedRecords<T> {
     }
 
     /// Gives bytes of bodies to the front of `out`, which has room, and tells how many.
+    #[tactic(auto, using(crate::proofs::Readings::reads_nothing, crate::proofs::Readings::reads_given, crate::proofs::Readings::reads_more))]
     fn read_bodies(&mut self, out: &mut [u8]) -> Result<usize, Stop>
         requires { 0 < length out.old }
         ensures bound { IfOk result (λ count. count ≤ length out.new) }
         ensures some { IfOk result (λ count. 0 < count) }
-        ensures reads { Reads self.old.incoming self.new.incoming (given_in result out.new) }
+        ensures reads { HasRead result (T.left self.old.inner) (T.left self.new.inner) self.old.incoming
+            self.new.incoming (given_in result out.new) }
         ensures stops { Counts result (stops_of (T.stops self.old.inner) self.old.ends)
             (stops_of (T.stops self.new.inner) self.new.ends) }
     {
