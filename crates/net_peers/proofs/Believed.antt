@@ -24,31 +24,29 @@ has_called guard machine nonce dialled answer proof ends is met = ∣ record {
 
 -- and says hello
 pub proved_by_listener : (guard : Guard) (machine : ℕ) (nonce : List ℕ) (answer : Challenge) (proof : List ℕ) (before after : Opener) (body sum : List ℕ) (hello : Hello)
-    → ∥ HasCalled guard machine nonce answer proof before ∥₁ → Opens before after body sum → IsHello hello body → machine_of hello.party ≡ machine → ∥ IsProved guard hello after ∥₁
+    → ∥ HasCalled guard machine nonce answer proof before ∥₁ → Opens before after body sum → IsHello hello body → machine_of hello.party ≡ machine → ∥ IsProved guard hello sum after ∥₁
 proved_by_listener guard machine nonce answer proof before after body sum hello called opens spells own = ∥∥₁_map called (λ (h : HasCalled guard machine nonce answer proof before). record {
   body = body;
   spells = spells;
-  said = inr (subst (λ (m : ℕ). IsSaidByListener guard m body after) (sym own) (record {
+  said = inr (subst (λ (m : ℕ). IsSaidByListener guard m body sum after) (sym own) (record {
     nonce = nonce;
     answer = answer;
     proof = proof;
     before = before;
     called = h;
-    sum = sum;
     opens = opens;
   }));
 })
 
 -- a machine that dialled is met
 said_by_dialler : (guard : Guard) (challenge : Challenge) (nonce : List ℕ) (answered : Answered) (body sum : List ℕ) (ends : Ends)
-    → HasAnswered guard.keys guard.own challenge nonce answered → MeetsDialler answered body sum ends → IsSaidByDialler guard challenge.from body ends.opener
+    → HasAnswered guard.keys guard.own challenge nonce answered → MeetsDialler answered body sum ends → IsSaidByDialler guard challenge.from body sum ends.opener
 said_by_dialler guard challenge nonce answered body sum ends has met = record {
   challenge = challenge;
   from = refl;
   nonce = nonce;
   answered = answered;
   has_answered = has;
-  sum = sum;
   ends = ends;
   met = met;
   opener_is = refl;
@@ -57,16 +55,16 @@ said_by_dialler guard challenge nonce answered body sum ends has met = record {
 -- by its hello
 pub proved_by_dialler : (guard : Guard) (challenge : Challenge) (nonce : List ℕ) (answered : Answered) (body sum : List ℕ) (ends : Ends) (hello : Hello)
     → ∥ HasAnswered guard.keys guard.own challenge nonce answered ∥₁ → MeetsDialler answered body sum ends → IsHello hello body → machine_of hello.party ≡ challenge.from
-    → ∥ IsProved guard hello ends.opener ∥₁
+    → ∥ IsProved guard hello sum ends.opener ∥₁
 proved_by_dialler guard challenge nonce answered body sum ends hello has met spells own = ∥∥₁_map has (λ (h : HasAnswered guard.keys guard.own challenge nonce answered). record {
   body = body;
   spells = spells;
-  said = inl (subst (λ (m : ℕ). IsSaidByDialler guard m body ends.opener) (sym own) (said_by_dialler guard challenge nonce answered body sum ends h met));
+  said = inl (subst (λ (m : ℕ). IsSaidByDialler guard m body sum ends.opener) (sym own) (said_by_dialler guard challenge nonce answered body sum ends h met));
 })
 
 -- or by what it leaves
 pub left_by_dialler : (guard : Guard) (challenge : Challenge) (nonce : List ℕ) (answered : Answered) (body sum : List ℕ) (ends : Ends)
-    → ∥ HasAnswered guard.keys guard.own challenge nonce answered ∥₁ → MeetsDialler answered body sum ends → ∥ IsLeft guard challenge.from body ∥₁
+    → ∥ HasAnswered guard.keys guard.own challenge nonce answered ∥₁ → MeetsDialler answered body sum ends → ∥ IsLeft guard challenge.from body sum ∥₁
 left_by_dialler guard challenge nonce answered body sum ends has met = ∥∥₁_map has (λ (h : HasAnswered guard.keys guard.own challenge nonce answered). record {
   opener = ends.opener;
   said = said_by_dialler guard challenge nonce answered body sum ends h met;

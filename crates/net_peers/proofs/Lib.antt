@@ -1,3 +1,4 @@
 pub mod Passed
 pub mod Believed
 pub mod Sent
+pub mod Records

@@ -4,3 +4,4 @@ pub mod Passing
 pub mod Refusals
 pub mod Carried
 pub mod Proved
+pub mod Saying

@@ -34,37 +34,36 @@ pub record HasCalled (guard : Guard) (machine : ℕ) (nonce : List ℕ) (answer 
   pub met : MeetsListener (dialled_by guard machine nonce) answer proof ends
   pub opener_is : opener ≡ ends.opener
 
--- The machine of this number was dialled, and says this behind what it has proved; this opens what it says next.
-pub record IsSaidByListener (guard : Guard) (machine : ℕ) (body : List ℕ) (opener : Opener) : Type 0 where
+-- The machine of this number was dialled, and says this behind what it has proved, by this sum; this opens what it says
+-- next.
+pub record IsSaidByListener (guard : Guard) (machine : ℕ) (body sum : List ℕ) (opener : Opener) : Type 0 where
   pub nonce : List ℕ
   pub answer : Challenge
   pub proof : List ℕ
   pub before : Opener
   pub called : HasCalled guard machine nonce answer proof before
-  pub sum : List ℕ
   pub opens : Opens before opener body sum
 
 -- The machine of this number dialled, was answered with a nonce of this end's own, and is met by this, which it says
--- first; this opens what it says next.
-pub record IsSaidByDialler (guard : Guard) (machine : ℕ) (body : List ℕ) (opener : Opener) : Type 0 where
+-- first, by this sum; this opens what it says next.
+pub record IsSaidByDialler (guard : Guard) (machine : ℕ) (body sum : List ℕ) (opener : Opener) : Type 0 where
   pub challenge : Challenge
   pub from : challenge.from ≡ machine
   pub nonce : List ℕ
   pub answered : Answered
   pub has_answered : HasAnswered guard.keys guard.own challenge nonce answered
-  pub sum : List ℕ
   pub ends : Ends
   pub met : MeetsDialler answered body sum ends
   pub opener_is : opener ≡ ends.opener
 
--- The machine of the party that says this hello has proved that it does; this opens what it says next.
-pub record IsProved (guard : Guard) (hello : Hello) (opener : Opener) : Type 0 where
+-- The machine of the party that says this hello has proved by this sum that it does; this opens what it says next.
+pub record IsProved (guard : Guard) (hello : Hello) (sum : List ℕ) (opener : Opener) : Type 0 where
   pub body : List ℕ
   pub spells : IsHello hello body
-  pub said : IsSaidByDialler guard (machine_of hello.party) body opener
-      ⊎ IsSaidByListener guard (machine_of hello.party) body opener
+  pub said : IsSaidByDialler guard (machine_of hello.party) body sum opener
+      ⊎ IsSaidByListener guard (machine_of hello.party) body sum opener
 
--- the machine of this number has proved that it leaves these bytes
-pub record IsLeft (guard : Guard) (machine : ℕ) (bytes : List ℕ) : Type 0 where
+-- the machine of this number has proved by this sum that it leaves these bytes
+pub record IsLeft (guard : Guard) (machine : ℕ) (bytes sum : List ℕ) : Type 0 where
   pub opener : Opener
-  pub said : IsSaidByDialler guard machine bytes opener
+  pub said : IsSaidByDialler guard machine bytes sum opener

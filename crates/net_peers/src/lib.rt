@@ -53,6 +53,7 @@ mod course;
 mod exchange;
 mod greeting;
 mod guard;
+mod hearing;
 mod laws;
 mod link;
 mod machine;

@@ -1,6 +1,7 @@
 //! A connection whose other end has to prove that it has the key, before it says hello.
 
-ghost use Rattle.std.specs.Prelude.{◌≤◌, ◌<◌};
+ghost use Rattle.std.specs.Prelude.{◌≡◌, ◌≤◌, ◌<◌, IfSome, length};
+ghost use Rattle.net_peers.specs.Saying.{HeardIn, IsRecord};
 
 use crate::greeting::VISIT;
 use crate::guard::Guard;
@@ -133,6 +134,34 @@ fn length_of(bytes: &[u8]) -> usize
     }
 }
 
+/// These bytes as a sum.
+fn sum_in(bytes: &[u8]) -> [u8; SUM]
+    requires { length bytes.now ≡ 16 }
+    ensures { result ≡ bytes.now }
+{
+    match <[u8; SUM]>::try_from(bytes) {
+        Ok(sum) => sum,
+        Err(_) => unreachable!(),
+    }
+}
+
+/// The body of the record that these bytes begin with, and its sum; none where it isn't whole.
+#[tactic(auto, using(crate::proofs::Records::record_first, crate::proofs::Records::range_length))]
+fn record_in(bytes: &[u8]) -> Option<(&[u8], &[u8])>
+    ensures is { IfSome result (λ r. IsRecord bytes.now r.0.now r.1.now) }
+    ensures sum { IfSome result (λ r. length r.1.now ≡ 16) }
+{
+    if bytes.len() < 2 {
+        return None;
+    }
+    let length = usize::from(bytes[0]) * 256 + usize::from(bytes[1]);
+    if bytes.len() < length + 2 + SUM {
+        return None;
+    }
+    let behind = 2 + length;
+    Some((&bytes[2..behind], &bytes[behind..behind + SUM]))
+}
+
 /// The challenge at the front of these bytes.
 fn challenge_in(bytes: &[u8]) -> Result<Challenge, ChallengeFault> {
     match bytes.get(..CHALLENGE) {
@@ -147,22 +176,10 @@ fn challenge_in(bytes: &[u8]) -> Result<Challenge, ChallengeFault> {
 /// What a machine that was dialled answers: its challenge, and the sum of a record with no body.
 pub(crate) fn answer_in(bytes: &[u8]) -> Result<(Challenge, [u8; SUM]), ChallengeFault> {
     let answer = challenge_in(bytes)?;
-    let proof = bytes.get(CHALLENGE..).unwrap_or(&[]);
-    match (body_in(proof), sum_in(proof)) {
-        (Some([]), Some(sum)) => Ok((answer, sum)),
+    match record_in(bytes.get(CHALLENGE..).unwrap_or(&[])) {
+        Some(([], sum)) => Ok((answer, sum_in(sum))),
         _ => Err(ChallengeFault::Forged),
     }
-}
-
-/// The body of a record that is whole.
-fn body_in(bytes: &[u8]) -> Option<&[u8]> {
-    bytes.get(2..length_of(bytes).saturating_add(2))
-}
-
-/// Its sum.
-fn sum_in(bytes: &[u8]) -> Option<[u8; SUM]> {
-    let behind = length_of(bytes).saturating_add(2);
-    <[u8; SUM]>::try_from(bytes.get(behind..behind.saturating_add(SUM))?).ok()
 }
 
 impl Meeting {
@@ -330,17 +347,29 @@ impl Meeting {
 }
 
 /// The machine that dialled said this first.
-fn first(answering: Answering, came: &[u8]) -> Result<Met, ChallengeFault> {
-    match (body_in(came), sum_in(came)) {
-        (Some(body), Some(sum)) => Ok(Met::Says(answering.hear(body, &sum)?)),
-        _ => Err(ChallengeFault::Forged),
+fn first(answering: Answering, came: &[u8]) -> Result<Met, ChallengeFault>
+    ensures { HeardIn result came.now }
+{
+    let Some((body, sum)) = record_in(came) else {
+        return Err(ChallengeFault::Forged);
+    };
+    let sum = sum_in(sum);
+    match answering.hear(body, &sum) {
+        Ok(word) => Ok(Met::Says(word)),
+        Err(fault) => Err(fault),
     }
 }
 
 /// The machine that was dialled said this behind its answer.
-fn second(called: Called, came: &[u8]) -> Result<Met, ChallengeFault> {
-    match (body_in(came), sum_in(came)) {
-        (Some(body), Some(sum)) => Ok(Met::Says(called.hear(body, &sum)?)),
-        _ => Err(ChallengeFault::Forged),
+fn second(called: Called, came: &[u8]) -> Result<Met, ChallengeFault>
+    ensures { HeardIn result came.now }
+{
+    let Some((body, sum)) = record_in(came) else {
+        return Err(ChallengeFault::Forged);
+    };
+    let sum = sum_in(sum);
+    match called.hear(body, &sum) {
+        Ok(word) => Ok(Met::Says(word)),
+        Err(fault) => Err(fault),
     }
 }

@@ -1,31 +1,34 @@
 //! What a machine proves by the key: that it says a hello, or leaves a visit.
 
-ghost use Rattle.std.specs.Prelude.{◌≡◌, IfSome};
-ghost use Rattle.net_hello.specs.Hellos.{IsHello};
+ghost use Rattle.std.specs.Prelude.{◌≡◌};
 ghost use Rattle.net_keys.specs.Meeting.{HasAnswered};
 ghost use Rattle.net_peers.specs.Proved.{HasCalled, IsLeft, IsProved, dialled_by};
 
 use crate::greeting::VISIT;
-use crate::guard::{Guard, machine_of};
+use crate::guard::Guard;
 use net_hello::Hello;
 use net_keys::{Answered, Challenge, ChallengeFault, Dialled, Ends, SUM};
 
 /// A hello of a machine that has proved that it says it, and both ways over its connection behind that.
 #[derive(Drop)]
 pub(crate) struct Proved {
-    guard: Guard,
+    pub(crate) guard: Guard,
     pub(crate) hello: Hello,
+    /// The one that came behind the hello.
+    pub(crate) sum: [u8; SUM],
     pub(crate) ends: Ends,
-    ghost is_proved: { ∥ IsProved guard hello ends.opener ∥₁ },
+    ghost is_proved: { ∥ IsProved guard hello sum ends.opener ∥₁ },
 }
 
 /// What the machine of this number has proved that it leaves.
 #[derive(Clone, Copy)]
 pub(crate) struct Left {
-    guard: Guard,
+    pub(crate) guard: Guard,
     pub(crate) by: u8,
     pub(crate) bytes: [u8; VISIT],
-    ghost is_left: { ∥ IsLeft guard by bytes ∥₁ },
+    /// The one that came behind them.
+    pub(crate) sum: [u8; SUM],
+    ghost is_left: { ∥ IsLeft guard by bytes sum ∥₁ },
 }
 
 /// What a machine says first, as it has proved.
@@ -35,16 +38,6 @@ pub(crate) enum Word {
     Visit(Left),
     /// Neither.
     Other,
-}
-
-/// The hello that these bytes are.
-fn hello_in(bytes: &[u8]) -> Option<Hello>
-    ensures { IfSome result (λ hello. IsHello hello bytes.now) }
-{
-    match Hello::read(bytes) {
-        Ok(found) => found,
-        Err(_) => None,
-    }
 }
 
 /// A machine that was dialled, and hasn't answered yet.
@@ -103,12 +96,12 @@ impl Calling {
 /// A machine that was dialled, and has proved that it has the key; it hasn't said hello yet.
 #[derive(Drop)]
 pub(crate) struct Called {
-    guard: Guard,
-    machine: u8,
+    pub(crate) guard: Guard,
+    pub(crate) machine: u8,
     nonce: [u8; 32],
     answer: Challenge,
     proof: [u8; SUM],
-    ends: Ends,
+    pub(crate) ends: Ends,
     ghost has_called: { ∥ HasCalled guard machine nonce answer proof ends.opener ∥₁ },
 }
 
@@ -117,37 +110,15 @@ impl Called {
     pub(crate) fn seal(&mut self, body: &[u8]) -> Option<[u8; SUM]> {
         self.ends.sealer.seal(body).ok()
     }
-
-    /// Hears what the machine says first behind its proof.
-    pub(crate) fn hear(self, body: &[u8], sum: &[u8; SUM]) -> Result<Word, ChallengeFault> {
-        let Called {
-            guard,
-            machine,
-            ends,
-            ..
-        } = self;
-        let mut ends = ends;
-        match ends.opener.open(body, sum) {
-            Ok(()) => {}
-            Err(_) => return Err(ChallengeFault::Forged),
-        }
-        let Some(hello) = hello_in(body) else {
-            return Ok(Word::Other);
-        };
-        if machine_of(hello.party) != machine {
-            return Err(ChallengeFault::OtherMachine);
-        }
-        Ok(Word::Hello(Proved { guard, hello, ends }))
-    }
 }
 
 /// A machine that dialled, and was answered; it hasn't proved anything yet.
 #[derive(Drop)]
 pub(crate) struct Answering {
-    guard: Guard,
-    challenge: Challenge,
+    pub(crate) guard: Guard,
+    pub(crate) challenge: Challenge,
     nonce: [u8; 32],
-    answered: Answered,
+    pub(crate) answered: Answered,
     ghost has_answered: { ∥ HasAnswered guard.keys guard.own challenge nonce answered ∥₁ },
 }
 
@@ -177,30 +148,5 @@ impl Answering {
     /// The sum of this end's first record, which has no body.
     pub(crate) fn proof(&self) -> [u8; SUM] {
         self.answered.proof()
-    }
-
-    /// Hears what the machine says first, by which it proves that it has the key.
-    pub(crate) fn hear(self, body: &[u8], sum: &[u8; SUM]) -> Result<Word, ChallengeFault> {
-        let Answering {
-            guard,
-            challenge,
-            answered,
-            ..
-        } = self;
-        let ends = match answered.meet(body, sum) {
-            Ok(ends) => ends,
-            Err(fault) => return Err(fault),
-        };
-        let by = challenge.from;
-        if let Ok(bytes) = <[u8; VISIT]>::try_from(body) {
-            return Ok(Word::Visit(Left { guard, by, bytes }));
-        }
-        let Some(hello) = hello_in(body) else {
-            return Ok(Word::Other);
-        };
-        if machine_of(hello.party) != by {
-            return Err(ChallengeFault::OtherMachine);
-        }
-        Ok(Word::Hello(Proved { guard, hello, ends }))
     }
 }

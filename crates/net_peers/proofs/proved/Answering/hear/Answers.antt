@@ -5,7 +5,7 @@ use Rattle.net_peers.proofs.proved.Answering.hear.Goals as goal
 
 pub invariant_of-result : goal.invariant_of-result
 invariant_of-result c = record {
-  is_left = subst (λ (bytes : List ℕ). ∥ IsLeft c.args.self.guard c.args.self.challenge.from bytes ∥₁) (sym c.in-Ok-try_from.ensures.1.same)
+  is_left = subst (λ (bytes : List ℕ). ∥ IsLeft c.args.self.guard c.args.self.challenge.from bytes c.args.sum.now ∥₁) (sym c.in-Ok-try_from.ensures.1.same)
       (left_by_dialler c.args.self.guard c.args.self.challenge c.args.self.nonce c.args.self.answered c.args.body.now c.args.sum.now c.in-Ok.ends c.args.self.has_answered c.in-Ok.ensures.met);
 }
 
