@@ -23,11 +23,14 @@ number_in (keeps.Begun epoch) = epoch.number
 abbrev pub store_in : Files → Kept → ℕ → ℕ
 store_in files kept drawn = if number_in files.kept == number_in kept then files.store else drawn
 
+-- a start more was counted
+abbrev pub HasCounted : Files → Files → Type 0
+HasCounted old new = old.starts + 1 < 2 ^ 64 → new ≡ record old { has_view = true; starts = old.starts + 1 }
+
 -- its files behind a write: a start more was counted, it's marked which epoch is begun, or that of epochs is kept, for
 -- which this number was drawn
 abbrev pub HasWritten : Write → ℕ → Files → Files → Type 0
-HasWritten writes.Start drawn old new =
-    old.starts + 1 < 2 ^ 64 → new ≡ record old { has_view = true; starts = old.starts + 1 }
+HasWritten writes.Start drawn old new = HasCounted old new
 HasWritten (writes.Begins epoch) drawn old new = new ≡ record old { begins = Some epoch }
 HasWritten (writes.Keep kept) drawn old new =
     (new.kept ≡ kept) × (new.begins ≡ old.begins) × (new.store ≡ store_in old kept drawn) × HasStartsOf kept old new

@@ -1,7 +1,7 @@
 //! The disk of a machine: what outlives a power cut, and what is written and isn't flushed.
 
-ghost use Rattle.std.specs.Prelude.{◌≡◌, ◌++◌, ◌∷◌, ℕ, [], IfSome, IsNone, None, OnOk, false, true};
-ghost use Rattle.sim_machine.specs.Disks.{HasFlushed, HasSaved, HasWritten, number_in, store_in};
+ghost use Rattle.std.specs.Prelude.{◌≡◌, ◌++◌, ◌∷◌, [], IfSome, IsNone, None, OnOk, false, true};
+ghost use Rattle.sim_machine.specs.Disks.{HasCounted, HasFlushed, HasSaved, HasWritten, number_in, store_in};
 ghost use Rattle.sim_machine.specs.declared.disk.Write.TheVariants as writes;
 
 use net_hello::Epoch;
@@ -85,7 +85,7 @@ impl Files {
 
     /// A start more is counted.
     fn count(&mut self)
-        ensures { (drawn : ℕ) → HasWritten writes.Start drawn self.old self.new }
+        ensures { HasCounted self.old self.new }
     {
         self.has_view = true;
         self.starts = self.starts.saturating_add(1);
