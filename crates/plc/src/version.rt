@@ -4,4 +4,4 @@
 /// The version, and the sum of the sources of this program: SHA-256 over the lines of crates.txt of this crate and all
 /// below it, and their src, specs and proofs, but for this file. `tools/gate/sources --list` prints what it's taken of.
 pub(crate) const PRINTED: &str =
-    "plc 0.1.0\nsources 97a23f4a8f6052659450dc3a1eb651ad7da43c9e374e0d0526171c67d1f005ab\n";
+    "plc 0.1.0\nsources d1c4bc41ef4d010d3943e6d71b7b21176ee92c4dd551807a56a78c3da03962e9\n";
