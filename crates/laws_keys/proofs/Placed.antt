@@ -32,7 +32,7 @@ module _ (law : OnlySealedIsGiven) (book : Book) where
   was_handed : (moment : ℕ) (sent : List code.Message) (m : code.Message) → IsBrought book moment sent m → Contains sent m ⊎ AnyForgedIn book
   was_handed moment sent m (inl has) = inl has
   was_handed moment sent m (inr over) =
-      elim (law (book.sealed moment over.one.way.pair) over.one.way over.put over.given over.one.opened over.ending over.all_fit over.fits over.has_sealed over.has_opened) [
+      elim (law (book.sealed moment over.one.way.pair) over.one.way over.put over.given over.one.came over.one.opened over.ending over.all_fit over.fits over.has_sealed over.has_opened) [
         | inr forged ↦ inr (record { moment = moment; one = over.one; among = over.heard; forged = forged })
         | inl prefix ↦ inl (over.handed m (subst (λ (xs : List code.Message). Contains xs m) (sym prefix.1) (contains_front over.given prefix.0 m over.among)))
       ]

@@ -1,12 +1,11 @@
 -- What is read behind a hello that was proved was opened over a way from its sayer's machine.
-use Rattle.std.proofs.Common.{◌≡◌, ℕ, ◌+◌, ◌^◌, ◌<◌, ◌≤◌, ◌⊎◌, inl, inr, not, ◌||◌, Bool, true, false, List, [], ◌∷◌, ◌++◌, Option, Some, None, Result, Ok, Err, length, if◌then◌else◌, refl, sym, ap, ◌∙◌, subst, arith}
+use Rattle.std.proofs.Common.{◌≡◌, ℕ, ◌+◌, ◌^◌, ◌<◌, ◌≤◌, ◌⊎◌, inl, inr, not, ◌||◌, Bool, true, false, List, [], ◌∷◌, ◌++◌, append_assoc, Option, Some, None, Result, Ok, Err, length, if◌then◌else◌, refl, sym, ap, ◌∙◌, subst, arith}
 use Rattle.std.specs.Prelude.{◌==◌, bytes_eq}
 use Rattle.std.proofs.lemmas.Bool.{eqb-true}
 use Rattle.io_model.specs.Streams.{Ending, Splits}
 use Rattle.vr_model.specs.declared.message.Message.{Message}
 use Rattle.vr_wire.specs.declared.fault.WireFault.{WireFault}
 use Rattle.vr_wire.specs.Streams.{frames}
-use Rattle.net_hello.specs.declared.hello.Hello.{Hello}
 use Rattle.net_keys.specs.Keys.{heard_as, key_name, key_named, pair_key}
 use Rattle.net_keys.specs.Meeting.{answer_of, connection_key, judged_answer, judged_challenge, key_or_none}
 use Rattle.net_keys.specs.Sealing.{sum_of}
@@ -20,11 +19,11 @@ use Rattle.net_keys.specs.declared.sealing.Side.{Side}
 use Rattle.net_keys.specs.declared.sealing.Side.TheVariants.{Dialler, Listener}
 use Rattle.net_keys.specs.declared.sealing.Opener.{Opener}
 use Rattle.net_keys.specs.declared.meeting.Answered.{Answered}
-use Rattle.net_sealed.specs.Coming.{Coming, Reads, bodies_in}
+use Rattle.net_sealed.specs.Coming.{Coming, Reads, StandFirst}
 use Rattle.net_sealed.proofs.Readings.{reads_more}
-use Rattle.net_peers.specs.Proved.{IsProved, IsSaidByDialler, IsSaidByListener, machine_of}
-use Rattle.laws_keys.specs.Ways.{Way, HasOpened}
-use Rattle.laws_keys.specs.Hellos.{GoesFrom, IsHeard, LeftOpenWays, ProvedOpenWays, ReadingsJoin, opens_behind}
+use Rattle.net_peers.specs.Proved.{IsSaidByDialler, IsSaidByListener, machine_of}
+use Rattle.laws_keys.specs.Ways.{Way, HasOpened, HaveCome, StandsIn}
+use Rattle.laws_keys.specs.Hellos.{GoesFrom, IsHeard, LeftOpenWays, ProvedOpenWays, ReadingsJoin, SumsStand, opens_behind}
 
 -- ---- how challenges were judged
 
@@ -74,6 +73,27 @@ is_heard keys own challenge nonce key e =
       | inr other ↦ inr (is_other keys.hears challenge.key key other)
     ]
 
+-- ---- what was opened of what came
+
+stands_wider : (came more part : List ℕ) → StandsIn came part → StandsIn (came ++ more) part
+stands_wider came more part (front, rest, is) =
+    (front, rest ++ more, ap (λ (t : List ℕ). t ++ more) is ∙ (append_assoc front (part ++ rest) more ∙ ap (λ (t : List ℕ). front ++ t) (append_assoc part rest more)))
+
+have_wider : (came more : List ℕ) (records : List (List ℕ × List ℕ)) → HaveCome came records → HaveCome (came ++ more) records
+have_wider came more [] have = tt
+have_wider came more ((body, sum) ∷ records) have = (stands_wider came more (body ++ sum) have.0, have_wider came more records have.1)
+
+-- records that stand first, one behind the other, have come
+all_stand : (whole front bytes : List ℕ) (records : List (List ℕ × List ℕ)) (rest : List ℕ) → whole ≡ front ++ bytes → StandFirst bytes records rest → HaveCome whole records
+all_stand whole front bytes [] rest is stand = tt
+all_stand whole front bytes ((body, sum) ∷ records) rest is (high, low, behind, bytes_are, long, stand) =
+    let start : List ℕ = front ++ (high ∷ low ∷ []) in
+    let one : whole ≡ start ++ (body ++ (sum ++ behind)) =
+    is ∙ (ap (λ (t : List ℕ). front ++ t) bytes_are ∙ sym (append_assoc front (high ∷ low ∷ []) (body ++ (sum ++ behind)))) in
+    let both : whole ≡ start ++ ((body ++ sum) ++ behind) = one ∙ ap (λ (t : List ℕ). start ++ t) (sym (append_assoc body sum behind)) in
+    let more : whole ≡ (start ++ (body ++ sum)) ++ behind = both ∙ sym (append_assoc start (body ++ sum) behind) in
+    ((start, behind, both), all_stand whole (start ++ (body ++ sum)) behind records rest more stand)
+
 -- ---- one way
 
 module _ (opener : Opener) (key : List ℕ) (side : Side) (met : ℕ) (is : opener ≡ record { key = key; side = side; next = met }) where
@@ -83,10 +103,17 @@ module _ (opener : Opener) (key : List ℕ) (side : Side) (met : ℕ) (is : open
   few : (n count : ℕ) → n ≡ opener.next + count → n < 2 ^ 64 → met + count ≤ 2 ^ 64
   few n count e lt = let from : opener.next ≡ met = ap (λ (o : Opener). o.next) is in omega arith
 
-module _ (keys : Keys) (own : ℕ) (opener : Opener) (after : Coming) (came : List ℕ) (given : List Message) (ending : Ending WireFault)
-    (r : Reads (opens_behind opener) after came) (lt : after.opener.next < 2 ^ 64) (split : Splits frames came given ending) where
-  by_dialler : (machine : ℕ) (body : List ℕ) → IsSaidByDialler (record { keys = keys; own = own }) machine body opener → (way : Way) × (opened : List (List ℕ × List ℕ)) × GoesFrom keys machine own way × HasOpened way opened given ending
-  by_dialler machine body s =
+module _ (keys : Keys) (own : ℕ) (opener : Opener) (first sum wire rest : List ℕ) (after : Coming) (gave : List ℕ) (given : List Message) (ending : Ending WireFault)
+    (r : Reads (Some wire) (Some rest) (opens_behind opener) after gave) (lt : after.opener.next < 2 ^ 64) (split : Splits frames gave given ending) where
+  over_all : (records : List (List ℕ × List ℕ)) → HaveCome (first ++ r.came) records → HaveCome (first ++ wire) records
+  over_all records have =
+      let whole : (first ++ r.came) ++ rest ≡ first ++ wire = append_assoc first r.came rest ∙ ap (λ (t : List ℕ). first ++ t) (sym r.read) in
+      subst (λ (t : List ℕ). HaveCome t records) whole (have_wider (first ++ r.came) rest records have)
+
+  by_either : (machine : ℕ) (body : List ℕ) (said : IsSaidByDialler (record { keys = keys; own = own }) machine body sum opener ⊎ IsSaidByListener (record { keys = keys; own = own }) machine body sum opener)
+      → SumsStand (record { keys = keys; own = own }) machine body sum opener first said
+      → (way : Way) × (opened : List (List ℕ × List ℕ)) × GoesFrom keys machine own way × HasOpened way (first ++ wire) opened given ending
+  by_either machine body (inl s) stands =
       let listener : Challenge = answer_of own s.challenge s.nonce in
       let pair : List ℕ = pair_key s.has_answered.key s.challenge.from own in
       let key : List ℕ = connection_key pair s.challenge listener in
@@ -95,7 +122,7 @@ module _ (keys : Keys) (own : ℕ) (opener : Opener) (after : Coming) (came : Li
       let is : opener ≡ record { key = key; side = Dialler; next = 1 } =
       s.opener_is ∙ (s.met.opener ∙ ap (λ (k : List ℕ). let o : Opener = record { key = k; side = Dialler; next = 1 } in o) same) in (
         way,
-        (body, s.sum) ∷ r.records,
+        (body, sum) ∷ r.records,
         record {
           key = s.has_answered.key;
           heard = is_heard keys own s.challenge s.nonce s.has_answered.key s.has_answered.judged;
@@ -104,28 +131,27 @@ module _ (keys : Keys) (own : ℕ) (opener : Opener) (after : Coming) (came : Li
           to_is = refl;
         },
         record {
-          came = came;
-          left = after.opened;
+          stand = over_all ((body, sum) ∷ r.records) (stands_wider first r.came (body ++ sum) stands, all_stand (first ++ r.came) first r.came r.records after.waiting refl r.stand);
           each = (s.met.proved ∙ ap (λ (k : List ℕ). sum_of k Dialler 0 body) same, behind opener key Dialler 1 is r.records r.opened);
           count = let most = few opener key Dialler 1 is after.opener.next (length r.records) r.next lt in omega (arith, most);
           met = omega arith;
-          read = r.bodies;
+          gave = gave;
+          left = after.opened;
+          bodies = r.bodies;
           split = split;
         },
       )
-
-  by_listener : (machine : ℕ) (body : List ℕ) → IsSaidByListener (record { keys = keys; own = own }) machine body opener → (way : Way) × (opened : List (List ℕ × List ℕ)) × GoesFrom keys machine own way × HasOpened way opened given ending
-  by_listener machine body s =
+  by_either machine body (inr s) (proof, stands) =
       let dialler : Challenge = record { from = own; to = machine; key = key_name keys.speaks; nonce = s.nonce } in
       let pair : List ℕ = pair_key keys.speaks own machine in
       let key : List ℕ = connection_key pair dialler s.answer in
       let way : Way = record { pair = pair; dialler = dialler; listener = s.answer; side = Listener; meeting = 2 } in
       let from : s.answer.from ≡ machine = answers dialler s.answer s.called.met.judged in
-      let first : s.before ≡ record { key = key; side = Listener; next = 1 } = s.called.opener_is ∙ s.called.met.opener in
+      let before : s.before ≡ record { key = key; side = Listener; next = 1 } = s.called.opener_is ∙ s.called.met.opener in
       let is : opener ≡ record { key = key; side = Listener; next = 2 } =
-      s.opens.after_is ∙ ap (λ (o : Opener). let next : Opener = record o { next = o.next + 1 } in next) first in (
+      s.opens.after_is ∙ ap (λ (o : Opener). let next : Opener = record o { next = o.next + 1 } in next) before in (
         way,
-        ([], s.proof) ∷ (body, s.sum) ∷ r.records,
+        ([], s.proof) ∷ (body, sum) ∷ r.records,
         record {
           key = keys.speaks;
           heard = inl refl;
@@ -134,27 +160,26 @@ module _ (keys : Keys) (own : ℕ) (opener : Opener) (after : Coming) (came : Li
           to_is = refl;
         },
         record {
-          came = came;
-          left = after.opened;
-          each = (s.called.met.proved, (s.opens.sum_is ∙ ap (λ (o : Opener). sum_of o.key o.side o.next body) first, behind opener key Listener 2 is r.records r.opened));
+          stand = over_all (([], s.proof) ∷ (body, sum) ∷ r.records) (stands_wider first r.came s.proof proof, (stands_wider first r.came (body ++ sum) stands, all_stand (first ++ r.came) first r.came r.records after.waiting refl r.stand));
+          each = (s.called.met.proved, (s.opens.sum_is ∙ ap (λ (o : Opener). sum_of o.key o.side o.next body) before, behind opener key Listener 2 is r.records r.opened));
           count = let most = few opener key Listener 2 is after.opener.next (length r.records) r.next lt in omega (arith, most);
           met = omega arith;
-          read = r.bodies;
+          gave = gave;
+          left = after.opened;
+          bodies = r.bodies;
           split = split;
         },
       )
 
 pub readings_join : ReadingsJoin
-readings_join before between after given more p q = reads_more before between after given more p q
+readings_join first second third before between after given more p q = reads_more first second third before between after given more p q
 
 pub proved_open_ways : ProvedOpenWays
-proved_open_ways keys own hello opener proved after came given ending r lt split = elim proved.said [
-  | inl s ↦ by_dialler keys own opener after came given ending r lt split (machine_of hello.party) proved.body s
-  | inr s ↦ by_listener keys own opener after came given ending r lt split (machine_of hello.party) proved.body s
-]
+proved_open_ways keys own hello sum opener first proved wire rest after bytes given ending reads lt split =
+    by_either keys own opener first sum wire rest after bytes given ending reads lt split (machine_of hello.party) proved.proved.body proved.proved.said proved.stand
 
 pub left_open_ways : LeftOpenWays
-left_open_ways keys own machine bytes l =
+left_open_ways keys own machine bytes sum first l stands =
     let s = l.said in
     let listener : Challenge = answer_of own s.challenge s.nonce in
     let pair : List ℕ = pair_key s.has_answered.key s.challenge.from own in
@@ -162,7 +187,6 @@ left_open_ways keys own machine bytes l =
     let way : Way = record { pair = pair; dialler = s.challenge; listener = listener; side = Dialler; meeting = 1 } in
     let same : s.answered.key ≡ key = ap (λ (a : Answered). a.key) s.has_answered.answered_is in (
       way,
-      s.sum,
       record {
         key = s.has_answered.key;
         heard = is_heard keys own s.challenge s.nonce s.has_answered.key s.has_answered.judged;
@@ -170,5 +194,6 @@ left_open_ways keys own machine bytes l =
         from_is = s.from;
         to_is = refl;
       },
+      stands,
       (s.met.proved ∙ ap (λ (k : List ℕ). sum_of k Dialler 0 bytes) same, tt),
     )

@@ -1,7 +1,8 @@
 -- A connection worked out: machine 2 dials machine 0, says hello, and sends a COMMIT of view 1 with the commit number 3.
 -- HMAC with SHA-256 is computed here, by its definition.
-use Rattle.std.proofs.Common.{◌≡◌, ℕ, zero, suc, inl, List, [], ◌∷◌, Option, Some, None, replicate, refl, sym, ap, ◌∙◌, arith}
+use Rattle.std.proofs.Common.{◌≡◌, ℕ, zero, suc, ◌<◌, inl, List, [], ◌∷◌, ◌++◌, Option, Some, None, drop, replicate, refl, sym, ap, subst, ◌∙◌, arith}
 use Rattle.std.specs.Prelude.{Contains, slice_get, slice_index}
+use Rattle.std.specs.List.{AllByRecursion}
 use Rattle.io_model.specs.Streams.{Rest}
 use Rattle.vr_model.specs.declared.message.Message.{Message}
 use Rattle.vr_model.specs.declared.message.Body.TheVariants as says
@@ -11,10 +12,10 @@ use Rattle.sha2.specs.Sha256.{sha256, digest_bytes, hash_after, compress, rounds
 use Rattle.net_keys.specs.Hmac.{hmac}
 use Rattle.net_keys.specs.Meeting.{connection_key, terms_of}
 use Rattle.net_keys.specs.Sealing.{sum_of, text_of}
-use Rattle.net_keys.specs.Forging.{AreOpened, HasForged, IsSealedThere, Sealed, all_summed}
+use Rattle.net_keys.specs.Forging.{AreOpened, IsSealedThere, Sealed, all_summed}
 use Rattle.net_keys.specs.declared.challenge.Challenge.{Challenge}
 use Rattle.net_keys.specs.declared.sealing.Side.TheVariants.{Dialler, Listener}
-use Rattle.laws_keys.specs.Ways.{Way, HasOpened, HasSealed}
+use Rattle.laws_keys.specs.Ways.{Way, ForgedCame, HasOpened, HasSealed, StandsIn}
 
 abbrev pub pair : List ℕ
 pair = 0 ∷ 1 ∷ 2 ∷ 3 ∷ 4 ∷ 5 ∷ 6 ∷ 7 ∷ 8 ∷ 9 ∷ 10 ∷ 11 ∷ 12 ∷ 13 ∷ 14 ∷ 15 ∷ 16 ∷ 17 ∷ 18 ∷ 19 ∷ 20 ∷ 21 ∷ 22 ∷ 23 ∷ 24 ∷ 25 ∷ 26 ∷ 27 ∷ 28 ∷ 29 ∷ 30 ∷ 31 ∷ []
@@ -109,14 +110,19 @@ it_is_sealed = record {
 abbrev pub opened : List (List ℕ × List ℕ)
 opened = (hello, first_sum) ∷ (frame, second_sum) ∷ []
 
-pub it_is_given : HasOpened way opened (commit ∷ []) (Rest [])
+-- the bytes that came: of each record its length, its body and its sum
+abbrev pub came : List ℕ
+came = (0 ∷ 2 ∷ hello) ++ (first_sum ++ ((0 ∷ 23 ∷ frame) ++ second_sum))
+
+pub it_is_given : HasOpened way came opened (commit ∷ []) (Rest [])
 it_is_given = record {
-  came = frame;
-  left = [];
+  stand = ((0 ∷ 2 ∷ [], (0 ∷ 23 ∷ frame) ++ second_sum, refl), (((0 ∷ 2 ∷ hello) ++ (first_sum ++ (0 ∷ 23 ∷ [])), [], refl), tt));
   each = both_are_opened;
   count = omega arith;
   met = omega arith;
-  read = refl;
+  gave = frame;
+  left = [];
+  bodies = refl;
   split = record { rest = []; whole = refl; each = (framed, tt); ends = (refl, inl (omega arith)) };
 }
 
@@ -125,6 +131,10 @@ it_is_given = record {
 abbrev body_in : Option (List ℕ × List ℕ) → List ℕ
 body_in None = []
 body_in (Some one) = one.0
+
+abbrev sum_in : Option (List ℕ × List ℕ) → List ℕ
+sum_in None = []
+sum_in (Some one) = one.1
 
 at_its_place : (place : ℕ) (body sum : List ℕ) → slice_get opened place ≡ Some (body, sum) → Contains (all_summed (sealed ∷ [])) (terms_of dialler listener, text_of Dialler place body)
 at_its_place zero body sum is =
@@ -135,15 +145,53 @@ at_its_place (suc zero) body sum is =
     (1, omega arith, ap (λ (b : List ℕ). (terms_of dialler listener, text_of Dialler 1 b)) same)
 at_its_place (suc (suc place)) body sum is = absurd cc
 
-pub nothing_was_forged : HasForged pair (sealed ∷ []) dialler listener Dialler opened → ⊥
-nothing_was_forged f = f.forged.1 (at_its_place f.place f.body f.sum f.there)
+pub nothing_was_forged : ForgedCame (sealed ∷ []) way came opened → ⊥
+nothing_was_forged f = f.forged.forged.1 (at_its_place f.forged.place f.forged.body f.forged.sum f.forged.there)
 
 -- it would have been, had nobody who has the key sealed anything
-pub all_was_forged : HasForged pair [] dialler listener Dialler opened
+pub all_was_forged : ForgedCame [] way came opened
 all_was_forged = record {
-  place = 0;
-  body = hello;
-  sum = first_sum;
-  there = refl;
-  forged = (both_are_opened.0, λ has. absurd (omega (arith, has.1)));
+  forged = record {
+    place = 0;
+    body = hello;
+    sum = first_sum;
+    there = refl;
+    forged = (both_are_opened.0, λ has. absurd (omega (arith, has.1)));
+  };
+  stands = (0 ∷ 2 ∷ [], (0 ∷ 23 ∷ frame) ++ second_sum, refl);
 }
+
+-- ---- but not where its right sum didn't come, though there is one
+
+third_of : (P : ℕ → Type 0) (front : List ℕ) (x y z : ℕ) (rest : List ℕ) → AllByRecursion P (front ++ (x ∷ y ∷ z ∷ rest)) → P z
+third_of P [] x y z rest all = all.1.1.0
+third_of P (w ∷ front) x y z rest all = third_of P front x y z rest all.1
+
+-- a stranger says the hello behind a sum of his own
+abbrev pub strange : List ℕ
+strange = (0 ∷ 2 ∷ hello) ++ replicate 16 7
+
+abbrev Small : ℕ → Type 0
+Small x = x < 106
+
+all_small : AllByRecursion Small strange
+all_small = (omega arith, (omega arith, (omega arith, (omega arith, (omega arith, (omega arith, (omega arith, (omega arith, (omega arith, (omega arith, (omega arith, (omega arith, (omega arith, (omega arith, (omega arith, (omega arith, (omega arith, (omega arith, (omega arith, (omega arith, tt))))))))))))))))))))
+
+not_there : StandsIn strange (hello ++ first_sum) → ⊥
+not_there (front, rest, is) =
+    let all : AllByRecursion Small (front ++ ((hello ++ first_sum) ++ rest)) = subst (λ (l : List ℕ). AllByRecursion Small l) is all_small in
+    let one : Small 143 = third_of Small front 104 105 143 (drop 3 (hello ++ first_sum) ++ rest) all in
+    absurd (omega (arith, one))
+
+abbrev pub alone : List (List ℕ × List ℕ)
+alone = (hello, first_sum) ∷ []
+
+at_none : (place : ℕ) (body sum : List ℕ) → slice_get alone place ≡ Some (body, sum) → StandsIn strange (body ++ sum) → ⊥
+at_none zero body sum is stands =
+    let one : hello ≡ body = ap body_in is in
+    let other : first_sum ≡ sum = ap sum_in is in
+    not_there (subst (λ (x : List ℕ). StandsIn strange (hello ++ x)) (sym other) (subst (λ (x : List ℕ). StandsIn strange (x ++ sum)) (sym one) stands))
+at_none (suc place) body sum is stands = absurd cc
+
+pub without_its_sum_none_came : ForgedCame [] way strange alone → ⊥
+without_its_sum_none_came f = at_none f.forged.place f.forged.body f.forged.sum f.forged.there f.stands

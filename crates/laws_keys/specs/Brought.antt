@@ -18,32 +18,32 @@ use Rattle.vr_model.specs.Steps.{ClientAction, Hears, AreClientSteps, first_clie
 use Rattle.vr_core.specs.StandsFor.{IsSavedAs}
 use Rattle.vr_serving.specs.Serving.{sends_in}
 use Rattle.vr_wire.specs.declared.fault.WireFault.{WireFault}
-use Rattle.net_keys.specs.Forging.{FitsSealed, HasForged, Sealed}
+use Rattle.net_keys.specs.Forging.{FitsSealed, Sealed}
 use Rattle.laws_threads.specs.CodeMoves.{CodeMove, Starts, Steps, Dies, Serves}
 use Rattle.laws_threads.specs.OwnMoves.{OwnMove, AllTakeHanded, own_moves, own_steps}
 use Rattle.laws_threads.specs.MachineMoves.{AreMachineMoves}
 use Rattle.laws_threads.specs.SilentMoves.{IsWithoutSilent}
 use Rattle.laws_threads.specs.ClientStarts.{AreStepsOverStarts}
-use Rattle.laws_keys.specs.Ways.{Way, FitsWay, HasOpened, HasSealed}
+use Rattle.laws_keys.specs.Ways.{Way, FitsWay, ForgedCame, HasOpened, HasSealed}
 
--- what was opened over a way, each record a body with its sum
+-- the bytes that came over a way, and what was opened of them, each record a body with the sum that came with it
 pub record Heard : Type 0 where
   pub way : Way
+  pub came : List ℕ
   pub opened : List (List ℕ × List ℕ)
 
 -- What had gone over all connections by each moment, which is the number of moves before it: what whoever has the key
--- of two machines had sealed, by that key; and what had been opened.
+-- of two machines had sealed, by that key; and what had come, and been opened.
 pub record Book : Type 0 where
   pub sealed : ℕ → List ℕ → List Sealed
   pub heard : ℕ → List Heard
 
--- by some moment a record had been opened that somebody made who hasn't the key
+-- by some moment a record had come, and been opened, that somebody made who hasn't the key
 pub record AnyForgedIn (book : Book) : Type 0 where
   pub moment : ℕ
   pub one : Heard
   pub among : Contains (book.heard moment) one
-  pub forged : HasForged one.way.pair (book.sealed moment one.way.pair) one.way.dialler one.way.listener one.way.side
-      one.opened
+  pub forged : ForgedCame (book.sealed moment one.way.pair) one.way one.came one.opened
 
 -- The message was given over a way by this moment, at whose other end only what was handed out before was put.
 pub record CameOver (book : Book) (moment : ℕ) (sent : List code.Message) (m : code.Message) : Type 0 where
@@ -56,7 +56,7 @@ pub record CameOver (book : Book) (moment : ℕ) (sent : List code.Message) (m :
   pub has_sealed : HasSealed (book.sealed moment one.way.pair) one.way put
   pub given : List code.Message
   pub ending : Ending WireFault
-  pub has_opened : HasOpened one.way one.opened given ending
+  pub has_opened : HasOpened one.way one.came one.opened given ending
   pub among : Contains given m
 
 -- it did so, or it went within its machine, where it was handed out before

@@ -42,24 +42,40 @@ pub record HasSealed (all : List Sealed) (w : Way) (put : List Message) : Type 0
   pub framed : AllByRecursion IsFramed put
   pub went : joined bodies ++ rest ≡ flat_map frame_of put
 
--- The other end has opened these records there, each a body with its sum, in order, each under the next number. What
--- it read of them, behind those by which both have met, splits into these messages.
-pub record HasOpened (w : Way) (opened : List (List ℕ × List ℕ)) (given : List Message) (ending : Ending WireFault)
-    : Type 0 where
-  pub came : List ℕ
-  pub left : List ℕ
+-- this part stands in all of it
+abbrev pub StandsIn : List ℕ → List ℕ → Type 0
+StandsIn all part = (front : List ℕ) × (rest : List ℕ) × (all ≡ front ++ (part ++ rest))
+
+-- each of these records stands in the bytes that came, its body with its sum behind it
+abbrev pub HaveCome : List ℕ → List (List ℕ × List ℕ) → Type 0
+HaveCome came [] = Unit {0}
+HaveCome came ((body, sum) ∷ records) = StandsIn came (body ++ sum) × HaveCome came records
+
+-- Of the bytes that came over the way, the other end has opened these records, each a body with the sum that came with
+-- it, in order, each under the next number. What it gave of them, behind those by which both have met, splits into
+-- these messages.
+pub record HasOpened (w : Way) (came : List ℕ) (opened : List (List ℕ × List ℕ)) (given : List Message)
+    (ending : Ending WireFault) : Type 0 where
+  pub stand : HaveCome came opened
   pub each : AreOpened (connection_key w.pair w.dialler w.listener) w.side 0 opened
   pub count : length opened ≤ 2 ^ 64
   pub met : w.meeting ≤ length opened
-  pub read : bodies_in (drop w.meeting opened) ≡ came ++ left
-  pub split : Splits frames came given ending
+  pub gave : List ℕ
+  pub left : List ℕ
+  pub bodies : bodies_in (drop w.meeting opened) ≡ gave ++ left
+  pub split : Splits frames gave given ending
+
+-- One of the records that were opened over a way was forged, and it came over it: body and sum stand in the bytes that
+-- did, the sum is right, and nobody who has the key has sealed that there.
+pub record ForgedCame (all : List Sealed) (w : Way) (came : List ℕ) (opened : List (List ℕ × List ℕ)) : Type 0 where
+  pub forged : HasForged w.pair all w.dialler w.listener w.side opened
+  pub stands : StandsIn came (forged.body ++ forged.sum)
 
 -- What was given over a way is a prefix of the messages that were put at the end which seals, in order, and no fault
--- was met; or one of the records that were opened was forged.
+-- was met; or a forged record came over it, and was opened.
 abbrev pub OnlySealedIsGiven : Type 0
 OnlySealedIsGiven =
-    (all : List Sealed) (w : Way) (put given : List Message) (opened : List (List ℕ × List ℕ))
+    (all : List Sealed) (w : Way) (put given : List Message) (came : List ℕ) (opened : List (List ℕ × List ℕ))
     (ending : Ending WireFault)
-    → AllByRecursion FitsSealed all → FitsWay w → HasSealed all w put → HasOpened w opened given ending
-    → ((later : List Message) × (put ≡ given ++ later) × IsRest ending)
-    ⊎ HasForged w.pair all w.dialler w.listener w.side opened
+    → AllByRecursion FitsSealed all → FitsWay w → HasSealed all w put → HasOpened w came opened given ending
+    → ((later : List Message) × (put ≡ given ++ later) × IsRest ending) ⊎ ForgedCame all w came opened
