@@ -1,0 +1,4 @@
+pub mod Faults
+pub mod Standing
+pub mod Calls
+pub mod Lives
