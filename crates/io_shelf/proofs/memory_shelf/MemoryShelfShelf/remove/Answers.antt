@@ -1,0 +1,6 @@
+use Rattle.io_shelf.proofs.Kept.{elapses_change}
+use Rattle.io_shelf.proofs.memory_shelf.MemoryShelfShelf.remove.Goals as goal
+
+pub returns-clause-time : goal.returns-clause-time
+returns-clause-time c =
+    elapses_change c.change.result c.args.self.now.past.items c.change.new.self.past.items c.args.self.now.content c.change.new.self.content c.change.ensures.past c.change.ensures.past_err c.change.ensures.content_err

@@ -1,0 +1,5 @@
+pub mod Counts
+pub mod Held
+pub mod Lives
+pub mod Past
+pub mod Shelves
