@@ -15,9 +15,9 @@ use Rattle.vr_ports.specs.declared.timer.Tick.{Tick}
 use Rattle.vr_ports.specs.Parties.{Grows}
 use Rattle.vr_serving.specs.Serving.{Turn, TimedOut, Resent, Received, Scene, scene, event_of, sends_in, StepsTo, Ran, Did}
 use Rattle.vr_threads.specs.Working.{ComesUp, Worked}
-use Rattle.laws_threads.specs.CodeMoves.{Seat, runs}
-use Rattle.laws_threads.specs.OwnMoves.{OwnMove, Stepped, Died, MayTake, own_handed, seat_after}
-use Rattle.laws_processes.specs.Going.{GoesOn, GoesToTheEnd, GoesUntil, GoesUntilUp}
+use Rattle.laws_threads.specs.CodeMoves.{Seat, runs, killed, KilledWithin}
+use Rattle.laws_threads.specs.OwnMoves.{OwnMove, Started, Stepped, Died, MayTake, own_handed, seat_after}
+use Rattle.laws_processes.specs.Going.{GoesOn, GoesInto, GoesToTheEnd, GoesUntil, GoesUntilUp}
 
 -- no restart is among them
 abbrev IsQuiet : Event → Type 0
@@ -50,6 +50,13 @@ events_split (Resent ∷ turns) last later e is = ap (λ (xs : List Event). even
 events_split (Received (input.Message a) ∷ turns) last later e is = ap (λ (xs : List Event). event.Message a ∷ xs) (events_split turns last later e is)
 events_split (Received input.Nothing ∷ turns) last later e is = events_split turns last later e is
 events_split (Received input.Closed ∷ turns) last later e is = events_split turns last later e is
+
+quiet_turn : (turn : Turn) (e : Event) → event_of turn ≡ Some e → IsQuiet e
+quiet_turn TimedOut e is = subst IsQuiet (same_Some event.Timeout e is) tt
+quiet_turn Resent e is = subst IsQuiet (same_Some event.Resend e is) tt
+quiet_turn (Received (input.Message a)) e is = subst IsQuiet (same_Some (event.Message a) e is) tt
+quiet_turn (Received input.Nothing) e is = absurd (let no : None ≡ Some e = is in cc)
+quiet_turn (Received input.Closed) e is = absurd (let no : None ≡ Some e = is in cc)
 
 may_take : (e : Event) → IsQuiet e → MayTake None e
 may_take (event.Message a) q = refl
@@ -114,6 +121,28 @@ module _ {S : Type 0} (loads : S → Option Stored → S → Type 0) (saves : S 
         died = λ left no_more. (q, s, None, refl, ran.4, may_take x quiet.0, u.died left no_more);
       }
 
+  -- ---- one move more
+
+  -- where the replica runs behind these moves, it dies within a step
+  dies : (moves : List (OwnMove S)) (seat : Seat S) (q : Replica) (s : S) (e : Event) (left : S) → GoesOn loads saves faults holds seat moves → seat_after (Some seat) moves ≡ Some (runs q s None)
+      → KilledWithin loads saves faults holds q s e left → MayTake None e → GoesOn loads saves faults holds seat (moves ++ Died e left ∷ [])
+  dies [] seat q s e left right ends died take = (q, s, None, same_Some seat (runs q s None) ends, died, take, tt)
+  dies (Started p found l number starts ∷ ms) seat q s e left right ends died take = absurd right
+  dies (Stepped x r l result ∷ ms) seat q s e left right ends died take =
+      (right.0, right.1, right.2, right.3, right.4, right.5, dies ms (runs r l None) q s e left right.6 ends died take)
+  dies (Died x l ∷ ms) seat q s e left right ends died take =
+      (right.0, right.1, right.2, right.3, right.4, right.5, dies ms (killed l) q s e left right.6 ends died take)
+
+  -- or does the step
+  steps_on : (moves : List (OwnMove S)) (seat : Seat S) (q : Replica) (s : S) (e : Event) (r : Replica) (t : S) (result : StepResult) → GoesOn loads saves faults holds seat moves → seat_after (Some seat) moves ≡ Some (runs q s None)
+      → StepsTo loads saves faults q s e r t result → MayTake None e → GoesOn loads saves faults holds seat (moves ++ Stepped e r t result ∷ [])
+  steps_on [] seat q s e r t result right ends steps take = (q, s, None, same_Some seat (runs q s None) ends, steps, take, tt)
+  steps_on (Started p found l number starts ∷ ms) seat q s e r t result right ends steps take = absurd right
+  steps_on (Stepped x p l given ∷ ms) seat q s e r t result right ends steps take =
+      (right.0, right.1, right.2, right.3, right.4, right.5, steps_on ms (runs p l None) q s e r t result right.6 ends steps take)
+  steps_on (Died x l ∷ ms) seat q s e r t result right ends steps take =
+      (right.0, right.1, right.2, right.3, right.4, right.5, steps_on ms (killed l) q s e r t result right.6 ends steps take)
+
   -- ---- behind a start
 
   -- it comes up, and then goes on
@@ -122,7 +151,7 @@ module _ {S : Type 0} (loads : S → Option Stored → S → Type 0) (saves : S 
   came_up q s n r t result steps moves right = (q, s, Some n, refl, steps, refl, right)
 
   module _ (nonce : Option ℕ) (ticks : Option (List Tick)) (inputs : Option (List Input)) (sent : Option (List code.Message)) (q : Replica) (s : S) (up b : Scene S) where
-    goes_to_the_end : (turns : List Turn) → ComesUp loads saves faults nonce (scene ticks inputs sent q s) up → Did loads saves faults turns up b → GoesToTheEnd loads saves faults holds (runs q s nonce) sent b.sent b.replica b.store
+    pub goes_to_the_end : (turns : List Turn) → ComesUp loads saves faults nonce (scene ticks inputs sent q s) up → Did loads saves faults turns up b → GoesToTheEnd loads saves faults holds (runs q s nonce) sent b.sent b.replica b.store
     goes_to_the_end turns comes did = of nonce comes
       where
         g : Gone up.replica up.store b.replica b.store did.sends
@@ -142,6 +171,18 @@ module _ {S : Type 0} (loads : S → Option Stored → S → Type 0) (saves : S 
           right = came_up q s n up.replica up.store c.0 c.1 g.moves g.right;
           ends = g.ends;
           handed = grows_on sent up.sent b.sent (sends_in c.0) (own_handed g.moves) c.2 (subst (λ (ms : List code.Message). Grows up.sent b.sent ms) (sym g.handed) did.handed);
+        }
+
+    pub goes_into : (turns : List Turn) (last : Turn) (e : Event) (becomes : Replica) (would_leave : S) (result : StepResult) → ComesUp loads saves faults nonce (scene ticks inputs sent q s) up → Did loads saves faults turns up b → event_of last ≡ Some e
+        → StepsTo loads saves faults b.replica b.store e becomes would_leave result → GoesInto loads saves faults holds (runs q s nonce) sent b.sent b.store e becomes would_leave result
+    goes_into turns last e becomes would_leave result comes did is steps =
+        let g : GoesToTheEnd loads saves faults holds (runs q s nonce) sent b.sent b.replica b.store = goes_to_the_end turns comes did in
+        let take : MayTake None e = may_take e (quiet_turn last e is) in
+        record {
+          moves = g.moves;
+          handed = g.handed;
+          died = λ left no_more. dies g.moves (runs q s nonce) b.replica b.store e left g.right g.ends (record { becomes = becomes; saved = would_leave; result = result; step = steps; holds_no_other = no_more }) take;
+          stepped = steps_on g.moves (runs q s nonce) b.replica b.store e becomes would_leave result g.right g.ends steps take;
         }
 
     goes_until : (early later : List Turn) (last : Turn) (e : Event) → event_of last ≡ Some e → ComesUp loads saves faults nonce (scene ticks inputs sent q s) up → Did loads saves faults (early ++ last ∷ later) up b

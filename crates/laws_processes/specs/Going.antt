@@ -6,6 +6,7 @@ use Rattle.vr_model.specs.declared.event.Stored.{Stored}
 use Rattle.vr_model.specs.declared.message.Message.{Message}
 use Rattle.vr_model.specs.Logs.{IsPrefix}
 use Rattle.vr_replica.specs.declared.state.Replica.{Replica}
+use Rattle.vr_replica.specs.Stepped.{StepResult}
 use Rattle.vr_ports.specs.Parties.{Grows}
 use Rattle.vr_serving.specs.Serving.{StepsTo}
 use Rattle.laws_threads.specs.CodeMoves.{Seat, runs, killed, KilledWithin}
@@ -51,6 +52,16 @@ module _ {S : Type 0} (load_gives : S → Option Stored → S → Type 0) (save_
     pub ends : seat_after (Some seat) moves ≡ Some (runs replica store None)
     pub handed : IsPrefix (own_handed moves) sends
     pub died : (left : S) → HoldsNoMore store would_leave left → GoesOn seat (moves ++ Died e left ∷ [])
+
+  -- From a moment between two turns into the next step: these steps came before, and handed out what its link was handed
+  -- by then. Where it's killed within the step, it dies in it, whatever store that leaves; where it's killed behind it,
+  -- whatever of it was sent by then, the step is one more.
+  pub record GoesInto (seat : Seat S) (sent sent_now : Option (List Message)) (store : S) (e : Event)
+      (becomes : Replica) (would_leave : S) (result : StepResult) : Type 0 where
+    pub moves : List (OwnMove S)
+    pub handed : Grows sent sent_now (own_handed moves)
+    pub died : (left : S) → HoldsNoMore store would_leave left → GoesOn seat (moves ++ Died e left ∷ [])
+    pub stepped : GoesOn seat (moves ++ Stepped e becomes would_leave result ∷ [])
 
   -- it was killed within the step by which it comes up
   abbrev pub GoesUntilUp : Seat S → ℕ → S → S → Type 0

@@ -6,14 +6,17 @@
 //! ```
 //!
 //! A process runs one thread for its replica, which starts it from its store, has it come up and serves it (`Worked` of
-//! vr_threads). No contract says anything of a call that doesn't return, and a killed process returns from none. So a
-//! kill is read as a moment within a call that would have returned: a moment of any number of turns, and so any moment.
+//! vr_threads). No contract says anything of a call that doesn't return, and a killed process returns from none. But the
+//! invariant of the loop of `serve` holds before each turn, whether the loop ends or not: it's what the turns so far
+//! came to. So a kill is a moment between two turns, or one within the step of the next, which would have come to
+//! something.
 //!
 //! Proved, for each kind of store of which it's said what it may hold:
 //!
 //! - What a start did to its end are steps that go on behind it (`worked_starts_go_on`). Where its process was killed
 //!   within the step by which it came up, or within one of a later turn, they are the steps before, and a death
 //!   (`killed_starts_go_on`).
+//! - So it is at each moment between two turns, and from there into the next step (`starts_go_on_at_any_moment`).
 //! - A start with such steps behind it is moves of a replica's own list, and of a machine's (`starts_are_moves`); lists
 //!   of a machine join, one process behind the other (`machine_moves_join`), as those of threads do in `laws_threads`.
 //! - Where a start failed, or its process was killed while its store counted it, the file holds what the start before
@@ -42,14 +45,15 @@ ghost use Rattle.vr_model.specs.StandsFor.{message_with};
 ghost use Rattle.vr_model.specs.Steps.{Submits, Retries, StartsAgain, Hears, MayClient};
 ghost use Rattle.vr_model.specs.World.{ClientState};
 ghost use Rattle.vr_replica.specs.declared.state.Replica.{Replica};
+ghost use Rattle.vr_replica.specs.Stepped.{StepResult};
 ghost use Rattle.vr_ports.specs.Parties.{Grows};
 ghost use Rattle.vr_ports.specs.declared.link.Input.{Input as Taken};
 ghost use Rattle.vr_ports.specs.declared.timer.Tick.{Tick};
-ghost use Rattle.vr_serving.specs.Serving.{Turn, event_of, scene};
+ghost use Rattle.vr_serving.specs.Serving.{Did, Scene, StepsTo, Turn, event_of, scene};
 ghost use Rattle.vr_threads.specs.declared.file_store.Held.{Held};
 ghost use Rattle.vr_threads.specs.Keeping.{CountsStart, Loads, Saves};
 ghost use Rattle.vr_threads.specs.Trying.{SavesBehind};
-ghost use Rattle.vr_threads.specs.Working.{HasStarted, Worked};
+ghost use Rattle.vr_threads.specs.Working.{ComesUp, HasStarted, Worked};
 ghost use Rattle.vr_client.specs.Client.{Client, new_client, SendsAt, BecomesAt, SubmitsCommand};
 ghost use Rattle.laws_threads.specs.CodeMoves.{Seat, IsUnused, StartsAsLeft, runs};
 ghost use Rattle.laws_threads.specs.OwnMoves.{OwnMove, Started, AreOwnMoves, seat_after};
@@ -57,7 +61,8 @@ ghost use Rattle.laws_threads.specs.MachineMoves.{AreMachineMoves, MachineStarts
 ghost use Rattle.laws_threads.specs.KeptViews.{HoldsNoOther};
 ghost use Rattle.laws_threads.specs.OpenedStores.{IsFileLeft, IsOneOrOther};
 ghost use Rattle.laws_threads.specs.ClientStarts.{ComesTo};
-ghost use Rattle.laws_processes.specs.Going.{GoesOn, GoesToTheEnd, GoesUntil, GoesUntilUp, counted_after};
+ghost use Rattle.laws_processes.specs.Going.{GoesOn, GoesInto, GoesToTheEnd, GoesUntil, GoesUntilUp};
+ghost use Rattle.laws_processes.specs.Going.{counted_after};
 
 use laws_threads::{Judged, Kept};
 
@@ -89,6 +94,26 @@ pub fn killed_starts_go_on<S: Kept>()
         → event_of last ≡ Some event
         → (all : List Message) × Grows sent sent_after all
         × GoesUntil S.load_gives S.save_gives S.faults S.holds (runs did.comes did.begun did.nonce) event all }
+{}
+
+/// What it did by a moment between two turns, at which is known what the turns so far came to and no more: steps that go
+/// on behind the start, and hand out what its link was handed by then. Where its process is killed within the next step,
+/// they are these and its death; where it's killed behind that, these and the step, whatever was sent of it.
+pub fn starts_go_on_at_any_moment<S: Kept>()
+    ensures between_turns { (ticks : Option (List Tick)) (inputs : Option (List Taken)) (sent : Option (List Message))
+        (comes : Replica) (begun : S) (nonce : Option ℕ) (up here : Scene S) (turns : List Turn)
+        → ComesUp S.load_gives S.save_gives S.faults nonce (scene ticks inputs sent comes begun) up
+        → Did S.load_gives S.save_gives S.faults turns up here
+        → GoesToTheEnd S.load_gives S.save_gives S.faults S.holds (runs comes begun nonce) sent here.sent here.replica
+        here.store }
+    ensures within_the_next { (ticks : Option (List Tick)) (inputs : Option (List Taken)) (sent : Option (List Message))
+        (comes : Replica) (begun : S) (nonce : Option ℕ) (up here : Scene S) (turns : List Turn) (last : Turn)
+        (event : Event) (becomes : Replica) (would_leave : S) (result : StepResult)
+        → ComesUp S.load_gives S.save_gives S.faults nonce (scene ticks inputs sent comes begun) up
+        → Did S.load_gives S.save_gives S.faults turns up here → event_of last ≡ Some event
+        → StepsTo S.load_gives S.save_gives S.faults here.replica here.store event becomes would_leave result
+        → GoesInto S.load_gives S.save_gives S.faults S.holds (runs comes begun nonce) sent here.sent here.store event
+        becomes would_leave result }
 {}
 
 /// A start that finds what was left, and steps that go on behind it, are moves of its replica's own list, and of its
