@@ -11,7 +11,8 @@ import time
 from group import Group, now
 from network import Loopback, told
 from stores import why_not
-from strangers import SIZE, address, hello_of
+from hellos import SIZE, hello_of
+from strangers import address
 
 CHALLENGE, SUM, ANSWER = 50, 16, 68
 DIALLER, LISTENER = 0, 1

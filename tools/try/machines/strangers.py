@@ -1,41 +1,14 @@
 """Strangers at the ports where machines of a group meet: hellos that are made up, some of them with all that the group
 knows of itself; and what a group that goes on makes of them."""
 import socket
-import struct
 import time
-from typing import NamedTuple
 
 from cuts import begun, epochs
 from group import Group, now
+from hellos import SIZE, hello_of, tells_nothing
 from stores import why_not
 
-FRONT, SIZE = b'PLC-VR', 118
-VERSION = 2
 BLANK, PIECE = 34 << 20, 1 << 16    # bytes of records that have nothing in them, and of those that are sent at once
-
-
-class Hello(NamedTuple):
-    """What an end of a connection says first, of a replica."""
-    identity: bytes
-    epoch: int
-    image: bytes
-    machine: int
-    starts: int
-    fresh: int
-    store: int
-
-    def spelled(self, version=VERSION):
-        party = struct.pack('>BB', 0, self.machine)
-        numbers = struct.pack('>QIQQQ', self.starts, self.fresh, self.store, 0, 0)
-        return FRONT + struct.pack('>H', version) + self.identity + struct.pack('>Q', self.epoch) + self.image + party \
-            + numbers
-
-
-def hello_of(group, machine):
-    """The hello that a machine of the group would say, by what `plc show` prints of its store."""
-    told = group.shown(machine)
-    return Hello(bytes.fromhex(told['identity']), int(told['epoch']), bytes.fromhex(told['begins with']), machine, 1,
-                 round(group.fresh * 1000), int(told['store'], 16))
 
 
 def address(group, machine):
@@ -54,12 +27,6 @@ def answered(group, machine, sent):
         except OSError:
             pass
     return came
-
-
-def tells_nothing(hello):
-    """Whether a hello says no more than the kind and the number of its party."""
-    party = slice(80, 82)
-    return len(hello) == SIZE and not any(hello[8:party.start] + hello[party.stop:])
 
 
 def no_hello_ends_a_group(options):

@@ -11,7 +11,8 @@ import time
 from console import Operator, image_of
 from controller import PATIENCE, came_true, patiently, take
 from groups import Patient
-from peers import BEAT, SIZE, Peer, hello_of, question, record
+from hellos import SIZE, hello_of
+from peers import BEAT, Peer, question, record
 
 VISIT_FRONT, VISIT = b'PLC-CS\0\2', 153
 FREEZE, FROZEN = 0, 1                   # kinds of words

@@ -5,40 +5,14 @@ import socket
 import struct
 import threading
 import time
-from typing import NamedTuple
 
 from controller import PATIENCE, came_true, patiently
 from groups import Patient
+from hellos import SIZE, hello_of, tells_nothing
 import network
 
-FRONT, VERSION, SIZE = b'PLC-VR', 2, 118
 KNOWN = 16              # bytes at a hello's end, of what it knows of the other end
 BEAT = 0.05             # seconds
-
-
-class Hello(NamedTuple):
-    """What an end of a connection says first, of a replica."""
-    identity: bytes
-    epoch: int
-    image: bytes
-    machine: int
-    starts: int
-    fresh: int
-    store: int
-    known_store: int = 0
-    known_starts: int = 0
-
-    def spelled(self, version=VERSION):
-        numbers = struct.pack('>BBQIQQQ', 0, self.machine, *self[4:])
-        return FRONT + struct.pack('>H', version) + self.identity + struct.pack('>Q', self.epoch) + self.image + numbers
-
-
-def hello_of(group, machine, starts):
-    """The hello of a machine of the group that was started so often, by what `plc show` prints of its store."""
-    told = group.shown(machine)
-    identity, image = bytes.fromhex(told['identity']), bytes.fromhex(told['begins with'])
-    epoch, fresh, store = int(told['epoch']), round(group.fresh * 1000), int(told['store'], 16)
-    return Hello(identity, epoch, image, machine, starts, fresh, store)
 
 
 class Peer:
@@ -91,11 +65,6 @@ class Peer:
     def close(self):
         self.is_over = True
         self.stream.close()
-
-
-def tells_nothing(hello):
-    """Whether a hello says no more than the kind and the number of its party."""
-    return len(hello) == SIZE and not any(hello[8:80] + hello[82:])
 
 
 def is_refused(group, sent, own):
