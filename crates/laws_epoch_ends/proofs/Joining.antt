@@ -39,7 +39,7 @@ module _ {C : Type 0} where
   moves_append (Moves m ∷ xs) ys = ap (λ ms. m ∷ ms) (moves_append xs ys)
   moves_append (Happens e event c ∷ xs) ys = moves_append xs ys
 
-  if_append : (t : Bool) (x : Event C × Completion) (es bs cs : List (Event C × Completion)) → es ≡ bs ++ cs → cond t (x ∷ es) es ≡ cond t (x ∷ bs) bs ++ cs
+  pub if_append : (t : Bool) (x : Event C × Completion) (es bs cs : List (Event C × Completion)) → es ≡ bs ++ cs → cond t (x ∷ es) es ≡ cond t (x ∷ bs) bs ++ cs
   if_append true x es bs cs is = ap (λ ds. x ∷ ds) is
   if_append false x es bs cs is = is
 
@@ -108,13 +108,13 @@ module _ {C : Type 0} where
                 ∙ ap (λ b. take (suc k) (cond b ((event, c) ∷ events_in e acts) (events_in e acts))) (sym t));
           }
 
-down_is_out : (s : Status) → is_down s ≡ true → takes_part s ≡ false
+pub down_is_out : (s : Status) → is_down s ≡ true → takes_part s ≡ false
 down_is_out Normal h = absurd (false≢true h)
 down_is_out ViewChange h = absurd (false≢true h)
 down_is_out Recovering h = refl
 down_is_out Down h = refl
 
-down_or_recovering : (s : Status) → is_down s ≡ true → is_recovering s ≡ true → ⊥
+pub down_or_recovering : (s : Status) → is_down s ≡ true → is_recovering s ≡ true → ⊥
 down_or_recovering Normal h k = false≢true h
 down_or_recovering ViewChange h k = false≢true h
 down_or_recovering Recovering h k = false≢true h

@@ -8,6 +8,8 @@ pub mod Asking
 pub mod Evidence
 pub mod Joining
 pub mod Processes
+pub mod LostDisks
 pub mod Worked
 pub mod WorkedActs
 pub mod WorkedProcesses
+pub mod WorkedLosses

@@ -66,7 +66,7 @@ module _ {C A : Type 0} (f : ℕ) (answer : List C → A) (i : ℕ) where
       elsewhere (record w { used = put w.used j (put (w.used j) x true) }) j (on_restart f j answer (record (w.replicas j) { stored_view = w.stores j }) x) completion other h
   steps_elsewhere w (StoreFail j keeps_new) completion other h = h
 
-  stays_new : (w : World C A) (event : Event C) (completion : Completion) → (IsAt w event i → ⊥) → IsNew w i → IsNew (happens f answer w event completion) i
+  pub stays_new : (w : World C A) (event : Event C) (completion : Completion) → (IsAt w event i → ⊥) → IsNew w i → IsNew (happens f answer w event completion) i
   stays_new w event completion other h = go (refusal f w event)
     where
       go : (r : Option Reason) → IsNew (if_none r (steps f answer w event completion) w) i
@@ -74,7 +74,7 @@ module _ {C A : Type 0} (f : ℕ) (answer : List C → A) (i : ℕ) where
       go (Some reason) = h
 
   -- to make a new replica anew changes nothing
-  same_made : (w : World C A) → IsNew w i → with_new w i ≡ w
+  pub same_made : (w : World C A) → IsNew w i → with_new w i ≡ w
   same_made w h = λ k. record w { replicas = λ j. replica j k; stores = λ j. store j k }
     where
       replica : (j : ℕ) → put w.replicas i first_replica j ≡ w.replicas j

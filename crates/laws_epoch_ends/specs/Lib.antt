@@ -3,6 +3,8 @@ pub mod Freezing
 pub mod Acts
 pub mod Ends
 pub mod Processes
+pub mod LostDisks
 pub mod WorkedEpochs
 pub mod WorkedActs
 pub mod WorkedProcesses
+pub mod WorkedLosses

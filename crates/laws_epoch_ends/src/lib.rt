@@ -29,11 +29,18 @@
 //!   meet the definitions (`worked_epochs`, `worked_acts`); so do those of a machine that begins by hand, with what
 //!   happens to its new replica then (`worked_processes`).
 //!
+//! Where disks may be lost, too, and an operator may name an epoch (`specs/LostDisks`, over the events of `laws_epochs`):
+//!
+//! - Nothing new is committed in an epoch once a machine begins a later one
+//!   (`nothing_new_comes_though_disks_are_lost`).
+//! - What processes make of an epoch is its one run from new replicas (`processes_are_one_run_though_disks_are_lost`).
+//! - Worked deeds, in which a machine begins an epoch and loses its disk, meet both definitions (`worked_losses`).
+//!
 //! Premises, all of them definitions: those of `laws_epochs`; a machine that says it's frozen, or still is, was heard
 //! right, and so was the question that it confirms, while words that ask to freeze may be forged (`specs/TrueMoves`);
 //! each start of a process counts more than those before; and replicas go with their machines (`AreHosted`): that of a
 //! frozen one recovers under its nonce or is down, and is handed no answer; and who left an epoch has closed its
-//! replica.
+//! replica. Where disks may be lost that a machine gives an epoch up behind f+1 that were frozen isn't among the laws.
 //!
 //! Only tested, or argued: that machines keep to these premises, and anything of time.
 #![tactic(auto)]
@@ -54,6 +61,10 @@ ghost use Rattle.laws_epoch_ends.specs.Ends.{EndedBefore, NothingNewIn};
 ghost use Rattle.vr_model.specs.World.{start};
 ghost use Rattle.vr_model.specs.Views.{world};
 ghost use Rattle.laws_epoch_ends.specs.Processes.{AreOfProcesses, IsNew, made_by};
+ghost use Rattle.laws_epochs.specs.LostDisks as lost;
+ghost use Rattle.laws_epoch_ends.specs.LostDisks as kept;
+ghost use Rattle.laws_epoch_ends.specs.LostDisks.{Deed, Does, begins};
+ghost use Rattle.laws_epoch_ends.specs.WorkedLosses.{WorkedLosses};
 ghost use Rattle.laws_epoch_ends.specs.WorkedEpochs.{WorkedEpochs};
 ghost use Rattle.laws_epoch_ends.specs.WorkedActs.{WorkedActs};
 ghost use Rattle.laws_epoch_ends.specs.WorkedProcesses.{WorkedProcesses};
@@ -135,6 +146,34 @@ pub fn processes_of_an_epoch_are_one_run<C, A>()
     laws_epochs::no_machine_begins_an_epoch_again();
 }
 
+/// Once a machine begins an epoch nothing new is committed in any epoch before it, though any disks may be lost, and an
+/// operator may name epochs.
+pub fn nothing_new_comes_though_disks_are_lost<C, A>()
+    ensures { (f : ℕ) (answer : List C → A) (stores : ℕ → Kept) (early late : List (Deed C)) (i now : ℕ)
+        (next epoch : Epoch) (becomes : ColdStart) → is_later next epoch ≡ true
+        → kept.AreHosted f answer stores epoch
+        (early ++ Does (lost.Moves (Takes i (TimeHasPassed now) (Begins next) becomes)) ∷ late)
+        → kept.NothingNewIn f answer stores epoch early
+        (Does (lost.Moves (Takes i (TimeHasPassed now) (Begins next) becomes)) ∷ late) }
+{
+    laws_epochs::majorities_keep_to_what_they_begin();
+    laws_cold_start::nothing_new_is_committed::<C, A>();
+}
+
+/// Whoever begins an epoch finds its replica there as a new one, though any disks may be lost: so what the processes of
+/// all machines make of the epoch is the one run of its events.
+pub fn processes_are_one_run_though_disks_are_lost<C, A>()
+    ensures new { (f : ℕ) (answer : List C → A) (stores : ℕ → Kept) (early late : List (Deed C)) (i : ℕ)
+        (epoch : Epoch) (becomes : ColdStart)
+        → kept.AreOfProcesses f answer stores epoch (early ++ begins i epoch becomes ∷ late)
+        → IsNew (world f answer (kept.events_in epoch early)) i }
+    ensures one { (f : ℕ) (answer : List C → A) (stores : ℕ → Kept) (deeds : List (Deed C)) (epoch : Epoch)
+        → kept.AreOfProcesses f answer stores epoch deeds
+        → kept.made_by f answer stores epoch start deeds ≡ world f answer (kept.events_in epoch deeds) }
+{
+    laws_epochs::no_epoch_is_begun_twice_though_disks_are_lost();
+}
+
 /// What the definitions compute for worked acts: epoch 1's replicas go with their machines while those are cut off,
 /// come up, freeze, give it up and begin epoch 2. So both laws above speak of them.
 pub fn worked_acts<C, A>()
@@ -151,4 +190,10 @@ pub fn worked_epochs()
 /// law of what processes make of an epoch speaks of them.
 pub fn worked_processes<C, A>()
     ensures { (low : 1 ≤ 1) (high : 1 ≤ 3) (answer : List C → A) → WorkedProcesses low high answer }
+{}
+
+/// What the definitions compute for worked deeds: machine 1 begins epoch 2 by hand, loses its disk, and waits above that
+/// epoch. So both laws of lost disks speak of them.
+pub fn worked_losses<C, A>()
+    ensures { (low : 1 ≤ 1) (high : 1 ≤ 3) (answer : List C → A) → WorkedLosses low high answer }
 {}

@@ -25,7 +25,7 @@ use Rattle.plc_epochs.proofs.GoingOn.{either}
 use Rattle.laws_epochs.specs.Machines.{Telling, TimeHasPassed, StoreHas, HelloCame, SignCame, RecoveryCame, WordCame, ReplicaRecovered, ImageIs, Follows, WasSaid}
 use Rattle.laws_epochs.specs.Machines.{Move, Starts, Takes, Greets, Writes, Stops, GoesByHand, Machine, Machines, to_write, May, after_move}
 use Rattle.laws_epochs.specs.Beginnings.{HasCome, IsNoEarlier}
-use Rattle.laws_epochs.specs.LostDisks.{Event, Moves, LosesDisk, Group, CameSince, HasComeOrWaits, HellosHold, KeepsTo, MayBe, after_event, with_disks}
+use Rattle.laws_epochs.specs.LostDisks.{Event, Moves, LosesDisk, GoesTo, Group, CameSince, HasComeOrWaits, HellosHold, IsAbove, KeepsTo, MayBe, after_event, with_disks}
 use Rattle.laws_epochs.proofs.Later.{come_on, hand_on, no_earlier_chain, not_later}
 use Rattle.laws_epochs.proofs.Changes.{Done, done, epoch_in, has_heard, heard_more, no_hello, nothing_heard, IsToldBy}
 use Rattle.laws_epochs.proofs.Standing.{Fine, FineAt, GoingOn, Rises, down, now, starts, write_up, writes}
@@ -128,6 +128,13 @@ module _ (f : ℕ) where
   moved w lost (GoesByHand i image has) goes s may =
       changed w lost i (record { store = has; runs = None }) s (λ e h. hand_on (w.at i).store has e image may.1 h) (down f Anyone i has)
 
+  -- an operator names an epoch above it
+  named_on : (hellos : List (ℕ × Epoch)) (k : Kept) (named e : Epoch) → IsAbove hellos k named → HasCome e k → IsNoEarlier named e
+  named_on hellos keeps.Nothing named e above h = absurd h
+  named_on hellos (keeps.Above own) named e above h = absurd h
+  named_on hellos (keeps.Entered own) named e above h = no_earlier_chain named own e (inr above) h
+  named_on hellos (keeps.Begun own) named e above h = no_earlier_chain named own e (inr above) h
+
   abbrev pub StandsSo : Group → Type 0
   StandsSo w = Stands f w.machines w.lost
 
@@ -141,6 +148,8 @@ module _ (f : ℕ) where
         said = λ n x h. put_both w.machines.at w.lost i empty count x.0 (λ (m : Machine) (l : ℕ). l ≤ n → HasCome x.1 m.store)
             (λ is l. absurd (omega (arith, within_length w.machines.hellos n x h, l))) (λ other l. s.said n x h l);
       }
+  stood w (GoesTo i named) goes s may =
+      changed w.machines w.lost i (record { store = keeps.Entered named; runs = None }) s (λ e h. named_on w.machines.hellos (w.machines.at i).store named e may.1 h) (down f Anyone i (keeps.Entered named))
 
   pub first : (stores : ℕ → Kept) → StandsSo (with_disks stores)
   first stores = record { each = λ i. down f Anyone i (stores i); said = λ n x h l. absurd (false≢true (ap is_some h)) }
@@ -176,12 +185,17 @@ Lives f e since hellos lost (Beginning own) = IsNoEarlier own e
 Lives f e since hellos lost (TakingPart own) = IsNoEarlier own e
 Lives f e since hellos lost (Recovering own r) = IsNoEarlier own e
 
+-- some machine has said hello in this epoch
+abbrev pub HasBeenSaid : List (ℕ × Epoch) → Epoch → Type 0
+HasBeenSaid hellos e = (place : ℕ) × (k : ℕ) × (slice_get hellos place ≡ Some (k, e))
+
 -- Those machines do; of each hello of theirs behind so many it's so, too.
 pub record Bound (f : ℕ) (e : Epoch) (who : ℕ → Bool) (since : ℕ) (w : Group) : Type 0 where
   pub store : (j : ℕ) → who j ≡ true → Stored e since (w.lost j) (w.machines.at j).store
   pub process : (j : ℕ) → who j ≡ true → (a : ColdStart) → (w.machines.at j).runs ≡ Some a → Lives f e since w.machines.hellos (w.lost j) a.phase
   pub hellos : (n : ℕ) (x : ℕ × Epoch) → slice_get w.machines.hellos n ≡ Some x → since ≤ n → who x.0 ≡ true → IsNoEarlier x.1 e
   pub short : since ≤ length w.machines.hellos
+  pub said : HasBeenSaid w.machines.hellos e
 
 -- ---- the greatest epoch that was heard
 
@@ -232,6 +246,12 @@ hand_stored e since lost keeps.Nothing has image h k = absurd cc
 hand_stored e since lost (keeps.Above above) has image h k = absurd cc
 hand_stored e since lost (keeps.Entered own) has image h k = come_stored e since lost has (hand_on (keeps.Entered own) has e image h k)
 hand_stored e since lost (keeps.Begun own) has image h k = come_stored e since lost has (hand_on (keeps.Begun own) has e image h k)
+
+named_stored : (hellos : List (ℕ × Epoch)) (e named : Epoch) (since lost : ℕ) (k : Kept) → IsAbove hellos k named → HasBeenSaid hellos e → Stored e since lost k → IsNoEarlier named e
+named_stored hellos e named since lost keeps.Nothing above said h = inr (above said.0 (said.1, e) said.2)
+named_stored hellos e named since lost (keeps.Above own) above said h = no_earlier_chain named own e (inr above) h
+named_stored hellos e named since lost (keeps.Entered own) above said h = no_earlier_chain named own e (inr above) h
+named_stored hellos e named since lost (keeps.Begun own) above said h = no_earlier_chain named own e (inr above) h
 
 pub stored_waits : (e : Epoch) (since lost : ℕ) (k : Kept) → Stored e since lost k → HasComeOrWaits e k
 stored_waits e since lost keeps.Nothing h = tt
@@ -420,6 +440,7 @@ module _ (f : ℕ) (e : Epoch) (since : ℕ) where
           (λ same. subst (λ k. (a : ColdStart) → m.runs ≡ Some a → Lives f e since w.machines.hellos (w.lost k) a.phase) (sym same) (process (subst (λ k. who k ≡ true) same is))) (λ other. b.process j is);
       hellos = b.hellos;
       short = b.short;
+      said = b.said;
     }
 
     runs_so : (w : Group) (i : ℕ) (b : ColdStart) → Lives f e since w.machines.hellos (w.lost i) b.phase → (a : ColdStart) → Some b ≡ Some a → Lives f e since w.machines.hellos (w.lost i) a.phase
@@ -442,6 +463,7 @@ module _ (f : ℕ) (e : Epoch) (since : ℕ) where
       process = λ j is a runs. more_lives w.machines.hellos ((i, epoch) ∷ []) (w.lost j) a.phase (b.process j is a runs);
       hellos = behind (λ n (x : ℕ × Epoch). since ≤ n → who x.0 ≡ true → IsNoEarlier x.1 e) w.machines.hellos (i, epoch) b.hellos (λ late is. greets_from w.machines.hellos (w.lost i) (may.0).phase epoch may.2 (b.process i is may.0 may.1));
       short = omega (arith, b.short, no_shorter w.machines.hellos ((i, epoch) ∷ []));
+      said = (b.said.0, b.said.1, still_there w.machines.hellos ((i, epoch) ∷ []) b.said.0 (b.said.1, e) b.said.2);
     }
     bound_moved w (Writes i) goes many s b may holds =
         put_bound w i (record { store = to_write (w.machines.at i).store (w.machines.at i).runs; runs = (w.machines.at i).runs }) b
@@ -462,4 +484,7 @@ module _ (f : ℕ) (e : Epoch) (since : ℕ) where
               (λ same a runs. absurd (false≢true (ap is_some runs))) (λ other. b.process j is);
           hellos = b.hellos;
           short = b.short;
+          said = b.said;
         }
+    bound_on w (GoesTo i named) goes many s b may =
+        put_bound w i (record { store = keeps.Entered named; runs = None }) b (λ is. named_stored w.machines.hellos e named since (w.lost i) (w.machines.at i).store may.1 b.said (b.store i is)) (λ is a runs. absurd (false≢true (ap is_some runs)))

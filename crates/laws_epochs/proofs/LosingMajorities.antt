@@ -1,10 +1,11 @@
 -- As a machine begins an epoch, f+1 keep to it, whatever is lost later; and no machine begins one twice.
 use Rattle.std.proofs.Common.{◌≡◌, ◌⊎◌, ℕ, zero, suc, ◌+◌, ◌≤◌, ◌||◌, Bool, true, false, List, [], ◌∷◌, ◌++◌, Option, Some, None, Ok, refl, sym, ap, ◌∙◌, subst, inl, inr, is_some, eqb, arith, length}
-use Rattle.std.specs.Prelude.{slice_get, slice_set}
+use Rattle.std.specs.Prelude.{count_by, slice_get, slice_set}
 use Rattle.std.proofs.lemmas.Bool.{false≢true, eq-eqb}
 use Rattle.std.proofs.lemmas.Option.{same_Some}
 use Rattle.vr_model.specs.Groups.{group_size, how_many}
 use Rattle.vr_model.specs.Replicas.{put}
+use Rattle.laws_history.proofs.Counts.{some_member}
 use Rattle.laws_history.proofs.Tables.{put_cases}
 use Rattle.net_hello.specs.declared.hello.Epoch.{Epoch}
 use Rattle.plc_epochs.specs.Epochs.{by_hand, is_later, is_same, nothing_told}
@@ -23,13 +24,13 @@ use Rattle.plc_epochs.proofs.GoingOn.{either}
 use Rattle.laws_epochs.specs.Machines.{Telling, TimeHasPassed, StoreHas, HelloCame, SignCame, RecoveryCame, WordCame, ReplicaRecovered, ImageIs, Follows}
 use Rattle.laws_epochs.specs.Machines.{Move, Starts, Takes, Greets, Writes, Stops, GoesByHand, Machine, to_write, May, after_move}
 use Rattle.laws_epochs.specs.Beginnings.{HasBegun, HasCome, IsBeginning, IsNoEarlier}
-use Rattle.laws_epochs.specs.LostDisks.{Event, Moves, LosesDisk, Group, AllStandBy, AreEvents, HasHeard, HellosHold, KeepsTo, MajorityKeeps, MayBe, after_event, after_events, with_disks}
+use Rattle.laws_epochs.specs.LostDisks.{Event, Moves, LosesDisk, GoesTo, Group, AllStandBy, AreEvents, HasHeard, HellosHold, IsAbove, StandsBy, KeepsTo, MajorityKeeps, MayBe, after_event, after_events, with_disks}
 use Rattle.laws_epochs.proofs.Later.{entered_only, hand_begun, later_yet}
 use Rattle.laws_epochs.proofs.Changes.{Done, IsEntered, done, has_heard, heard_in}
 use Rattle.laws_epochs.proofs.Standing.{Fine, GoingOn}
-use Rattle.laws_epochs.proofs.Beginning.{Begins, all_came, begins, many, own_came, who}
+use Rattle.laws_epochs.proofs.Beginning.{Begins, all_came, begins, heard_so, many, no_fewer, own_came, who}
 use Rattle.laws_epochs.proofs.Once.{starts_now}
-use Rattle.laws_epochs.proofs.Losing.{Anyone, Bound, Lives, Stands, StandsSo, Stored, bound_on, come_lives, come_stored, first, keeps_to, lives_stored, stood, within_length}
+use Rattle.laws_epochs.proofs.Losing.{Anyone, Bound, HasBeenSaid, Lives, Stands, StandsSo, Stored, bound_on, come_lives, come_stored, first, keeps_to, lives_stored, stood, within_length}
 
 -- ---- events
 
@@ -72,10 +73,12 @@ module _ (f : ℕ) where
       let bg : Begins a e = begins now e a b h in
       let store : Kept = (w.machines.at i).store in
       let fine : Fine f Anyone i store a = s.each i a runs in
-      let heard_came : (k : ℕ) → has_heard bg.heard k ≡ true → HasCome e (w.machines.at k).store = λ k heard.
-      let some = heard_some (slice_get bg.heard k) heard in
-      let by = stand a k runs (subst (λ p. HasHeard p k) (sym bg.phase) some) in
-      s.said by.place (k, e) by.said by.since in
+      let by : (k : ℕ) → has_heard bg.heard k ≡ true → StandsBy w k e = λ k heard. stand a k runs (subst (λ p. HasHeard p k) (sym bg.phase) (heard_some (slice_get bg.heard k) heard)) in
+      let heard_came : (k : ℕ) → has_heard bg.heard k ≡ true → HasCome e (w.machines.at k).store = λ k heard. s.said (by k heard).place (k, e) (by k heard).said (by k heard).since in
+      let counted : count_by is_some bg.heard ≤ how_many (has_heard bg.heard) (group_size f) = no_fewer bg.heard (group_size f) (λ j h. (heard_so f i Anyone e store a fine bg j h).2) in
+      let enough : f ≤ count_by is_some bg.heard = subst (λ n. n ≤ count_by is_some bg.heard) fine.group bg.many in
+      let one : 1 ≤ f = subst (λ n. 1 ≤ n) fine.group a.place.config.at_least_one in
+      let someone = some_member (has_heard bg.heard) (group_size f) (omega (arith, counted, enough, one)) in
       let came : (j : ℕ) → who i bg.heard j ≡ true → HasCome e (w.machines.at j).store =
       all_came f i Anyone e store a fine bg (λ k. HasCome e (w.machines.at k).store) (own_came f i Anyone e store a fine bg) heard_came in
       let count : ℕ = length w.machines.hellos in
@@ -89,6 +92,7 @@ module _ (f : ℕ) where
           process = λ j is c up. come_lives f e count w.machines.hellos (w.lost j) c.phase ((s.each j c up).ahead e (came j is));
           hellos = λ n x there late is. absurd (omega (arith, within_length w.machines.hellos n x there, late));
           short = omega arith;
+          said = ((by someone.0 someone.2).place, someone.0, (by someone.0 someone.2).said);
         };
       }
 
@@ -241,6 +245,9 @@ module _ (f : ℕ) where
   majorities_on w (LosesDisk j) goes s may all =
       put_backed w (after_event f w (LosesDisk j)) j (record { store = keeps.Nothing; runs = None })
       (λ i e b. backed_on f w (LosesDisk j) e i goes s may b) refl all (nobody w j (record { store = keeps.Nothing; runs = None }) refl)
+  majorities_on w (GoesTo j named) goes s may all =
+      put_backed w (after_event f w (GoesTo j named)) j (record { store = keeps.Entered named; runs = None })
+      (λ i e b. backed_on f w (GoesTo j named) e i goes s may b) refl all (nobody w j (record { store = keeps.Entered named; runs = None }) refl)
 
   majorities_over : (vs : List Event) (w : Group) → GoingOn → StandsSo f w → AreEvents f w vs → Majorities f w → Majorities f (after_events f w vs)
   majorities_over [] w goes s right all = all
@@ -301,6 +308,12 @@ begun_passed e keeps.Nothing h = absurd h
 begun_passed e (keeps.Above above) h = absurd h
 begun_passed e (keeps.Entered own) h = h
 begun_passed e (keeps.Begun own) h = h
+
+named_passed : (hellos : List (ℕ × Epoch)) (e named : Epoch) (k : Kept) → IsAbove hellos k named → HasBeenSaid hellos e → Passed e k → is_later named e ≡ true
+named_passed hellos e named keeps.Nothing above said h = above said.0 (said.1, e) said.2
+named_passed hellos e named (keeps.Above own) above said h = later_yet named own e above h
+named_passed hellos e named (keeps.Entered own) above said h = later_yet named own e above (inr h)
+named_passed hellos e named (keeps.Begun own) above said h = later_yet named own e above h
 
 hand_passed : (e : Epoch) (k has : Kept) (image : List ℕ) → by_hand k image ≡ Ok has → Passed e k → Passed e has
 hand_passed e keeps.Nothing has image h k = absurd cc
@@ -368,6 +381,8 @@ module _ (f : ℕ) (e : Epoch) where
   done_on w i (Moves (GoesByHand j image has)) goes s backed may h =
       changed w.machines.at i j (record { store = has; runs = None }) h (λ same k. stopped has (hand_passed e (w.machines.at j).store has image may.0.1 k.0))
   done_on w i (LosesDisk j) goes s backed may h = changed w.machines.at i j (record { store = keeps.Nothing; runs = None }) h (λ same k. stopped keeps.Nothing tt)
+  done_on w i (GoesTo j named) goes s backed may h =
+      changed w.machines.at i j (record { store = keeps.Entered named; runs = None }) h (λ same k. stopped (keeps.Entered named) (named_passed w.machines.hellos e named (w.machines.at j).store may.1 backed.bound.said k.0))
 
   done_over : (vs : List Event) (w : Group) (i : ℕ) → GoingOn → StandsSo f w → Backed f e i w → AreEvents f w vs → HasDone e (w.machines.at i) → HasDone e ((after_events f w vs).machines.at i)
   done_over [] w i goes s backed right h = h

@@ -1,4 +1,5 @@
--- What the machines of a group do about its epochs where disks are lost: each of their moves, and that a disk is lost.
+-- What the machines of a group do about its epochs where disks are lost: each of their moves, that a disk is lost, and
+-- that an operator names an epoch.
 use Rattle.std.specs.Prelude.{◌≡◌, ℕ, ◌+◌, ◌<◌, ◌≤◌, Bool, true, List, [], ◌∷◌, ◌++◌, Some, None, length, slice_get}
 use Rattle.vr_model.specs.Groups.{group_size, how_many}
 use Rattle.vr_model.specs.Replicas.{put}
@@ -10,16 +11,19 @@ use Rattle.plc_epochs.specs.declared.cold_start.Phase.{Phase}
 use Rattle.plc_epochs.specs.declared.cold_start.Phase.TheVariants.{Entered}
 use Rattle.plc_epochs.specs.declared.cold_start.Step.{Step}
 use Rattle.plc_epochs.specs.declared.cold_start.Step.TheVariants as steps
+use Rattle.plc_epochs.specs.Epochs.{is_later}
 use Rattle.plc_epochs.specs.Table.{spoken_in}
 use Rattle.laws_epochs.specs.Machines.{Telling, HelloCame, Move, Starts, Takes, Greets, Writes, Stops, GoesByHand}
 use Rattle.laws_epochs.specs.Machines.{Machine, Machines, May, after_move, at_rest}
 use Rattle.laws_epochs.specs.Beginnings.{IsNoEarlier}
 
--- One event: a machine moves; or its disk is lost. Its process is over then, and it gets a store that waits: one that
--- knows of no epoch.
+-- One event: a machine moves; or its disk is lost: its process is over then, and it gets a store that waits, one that
+-- knows of no epoch; or an operator has it begin an epoch that he names, whatever its store has, while its process is
+-- over. The last is the way out where f+1 disks are lost.
 pub data Event : Type 0 where
   Moves : (move : Move) → Event
   LosesDisk : (machine : ℕ) → Event
+  GoesTo : (machine : ℕ) (epoch : Epoch) → Event
 
 -- all machines, and of each how many hellos had been said as its disk was lost last
 pub record Group : Type 0 where
@@ -64,13 +68,25 @@ HellosHold w (Writes machine) = Unit {0}
 HellosHold w (Stops machine) = Unit {0}
 HellosHold w (GoesByHand machine image has) = Unit {0}
 
+-- What an operator names: an epoch that is later than the one of the store; and where that knows of none, later than
+-- each one in which any machine has said hello by then.
+abbrev pub IsAbove : List (ℕ × Epoch) → Kept → Epoch → Type 0
+IsAbove hellos keeps.Nothing epoch = (place : ℕ) (said : ℕ × Epoch) → slice_get hellos place ≡ Some said
+    → is_later epoch said.1 ≡ true
+IsAbove hellos (keeps.Above own) epoch = is_later epoch own ≡ true
+IsAbove hellos (keeps.Entered own) epoch = is_later epoch own ≡ true
+IsAbove hellos (keeps.Begun own) epoch = is_later epoch own ≡ true
+
 -- ---- a group of 2f+1 machines
 
 module _ (f : ℕ) where
-  -- a machine may move as where no disk is lost, by hellos that hold; and any disk may be lost at any moment
+  -- A machine may move as where no disk is lost, by hellos that hold; any disk may be lost at any moment; and an
+  -- operator is heard where no process is up.
   abbrev pub MayBe : Group → Event → Type 0
   MayBe w (Moves move) = May f w.machines move × HellosHold w move
   MayBe w (LosesDisk machine) = Unit {0}
+  MayBe w (GoesTo machine epoch) =
+      ((w.machines.at machine).runs ≡ None) × IsAbove w.machines.hellos (w.machines.at machine).store epoch
 
   abbrev pub after_event : Group → Event → Group
   after_event w (Moves move) = record w { machines = after_move f w.machines move }
@@ -80,6 +96,12 @@ module _ (f : ℕ) where
       hellos = w.machines.hellos;
     };
     lost = put w.lost machine (length w.machines.hellos);
+  }
+  after_event w (GoesTo machine epoch) = record w {
+    machines = record {
+      at = put w.machines.at machine (record { store = keeps.Entered epoch; runs = None });
+      hellos = w.machines.hellos;
+    };
   }
 
   -- each event may be where the one before it led

@@ -26,15 +26,17 @@
 //! is presupposed: they may be forged. No time is, and no replica: with both, `laws_epoch_ends` has that f+1 machines are
 //! frozen at one moment where one of them gives an epoch up by itself.
 //!
-//! Where disks are lost, too (`specs/LostDisks`), each at any moment, and its machine gets a store that waits:
+//! Where disks are lost, too (`specs/LostDisks`), each at any moment, its machine gets a store that waits, and an operator
+//! may have a machine begin an epoch that he names, as where f+1 disks are lost:
 //!
 //! - As a machine begins an epoch, f+1 keep to it for good, though their own disks may be lost later: none of them
 //!   takes part in an epoch before it again (`majorities_keep_to_what_they_begin`).
 //! - A machine whose disk is lost waits above each epoch that it began (`who_lost_its_disk_waits_above_what_it_began`),
 //!   and begins none of them a second time (`no_epoch_is_begun_twice_though_disks_are_lost`).
 //!
-//! Two premises more, of hellos: a machine hears none that was said before it lost its own disk, and as it begins an
-//! epoch, each machine by whose hello it does so hasn't lost its disk since (`HellosHold`).
+//! Three premises more: a machine hears no hello that was said before it lost its own disk; as it begins an epoch, each
+//! machine by whose hello it does so hasn't lost its disk since (`HellosHold`); and an epoch that an operator names is
+//! later than the store's, or, where that knows none, than each in which any machine has said hello (`IsAbove`).
 #![tactic(auto)]
 
 ghost use Rattle.std.specs.Prelude.{◌≡◌, ℕ, ◌≤◌, true, Some, List, [], ◌∷◌, ◌++◌, slice_get};

@@ -8,7 +8,8 @@
 //! ```
 //!
 //! Proved: behind what some machine showed of an epoch no machine shows anything of an earlier one, however the later
-//! one came about (`no_reader_goes_back`). Within an epoch there is one history (`laws_history`, `laws_clients`).
+//! one came about (`no_reader_goes_back`), though disks may be lost (`no_reader_goes_back_though_disks_are_lost`). Within
+//! an epoch there is one history (`laws_history`, `laws_clients`).
 //!
 //! Presupposed, in definitions (`specs/Readings`): all moments are of one clock, so the machines' clocks go equally
 //! fast and none of them stands still; what is shown is as of a request that stood in no log `fresh` ago; and whatever
@@ -22,15 +23,28 @@ ghost use Rattle.std.specs.Prelude.{◌≡◌, ◌≤◌, ℕ, true, List, ◌++
 ghost use Rattle.net_hello.specs.declared.hello.Epoch.{Epoch};
 ghost use Rattle.plc_epochs.specs.Epochs.{is_later};
 ghost use Rattle.plc_epochs.specs.declared.kept.Kept.{Kept};
-ghost use Rattle.laws_epoch_ends.specs.Acts.{AreHosted};
-ghost use Rattle.laws_readers.specs.Readings.{TimedAct, acts_of, Shows};
+ghost use Rattle.laws_epoch_ends.specs.Acts.{Act, AreHosted};
+ghost use Rattle.laws_epoch_ends.specs.LostDisks.{Deed};
+ghost use Rattle.laws_epoch_ends.specs.LostDisks as kept;
+ghost use Rattle.laws_readers.specs.Readings.{Timed, acts_of, Shows, ShowsByDeeds};
 
 /// Where some machine showed something of an epoch, none shows anything of an earlier one at that moment or behind it.
 pub fn no_reader_goes_back<C, A>()
     ensures { (f : ℕ) (answer : List C → A) (stores : ℕ → Kept) (belongs : ℕ → ℕ → ℕ) (fresh : ℕ)
-        (first more : List (TimedAct C)) (later earlier : Epoch) (now then : ℕ)
+        (first more : List (Timed (Act C))) (later earlier : Epoch) (now then : ℕ)
         → AreHosted f answer stores belongs earlier (acts_of (first ++ more)) → is_later later earlier ≡ true
         → now ≤ then → Shows f answer fresh first later now → Shows f answer fresh (first ++ more) earlier then → ⊥ }
 {
     laws_epoch_ends::nothing_new_comes_once_a_later_epoch_begins::<C, A>();
+}
+
+/// It's so though disks may be lost, and an operator may name epochs.
+pub fn no_reader_goes_back_though_disks_are_lost<C, A>()
+    ensures { (f : ℕ) (answer : List C → A) (stores : ℕ → Kept) (fresh : ℕ) (first more : List (Timed (Deed C)))
+        (later earlier : Epoch) (now then : ℕ)
+        → kept.AreHosted f answer stores earlier (acts_of (first ++ more)) → is_later later earlier ≡ true
+        → now ≤ then → ShowsByDeeds f answer fresh first later now
+        → ShowsByDeeds f answer fresh (first ++ more) earlier then → ⊥ }
+{
+    laws_epoch_ends::nothing_new_comes_though_disks_are_lost::<C, A>();
 }
