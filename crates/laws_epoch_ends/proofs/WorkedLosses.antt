@@ -61,8 +61,8 @@ module _ {C : Type 0} where
 
   -- one event alone is no deed of a machine
   not_by_one : (x : Deed C) (early : List (Deed C)) (v : lost.Event) (late : List (Deed C)) → is_doing x ≡ false → x ∷ [] ≡ early ++ Does v ∷ late → ⊥
-  not_by_one x [] v late no h = false≢true (sym no ∙ ap (λ xs. is_doing (first_of x xs)) h)
-  not_by_one x (y ∷ ys) v late no h = false≢true (ap is_full (ap tail_of h) ∙ full ys (Does v) late)
+  not_by_one x [] v late none h = false≢true (sym none ∙ ap (λ xs. is_doing (first_of x xs)) h)
+  not_by_one x (y ∷ ys) v late none h = false≢true (ap is_full (ap tail_of h) ∙ full ys (Does v) late)
 
 module _ {C A : Type 0} (answer : List C → A) (low : 1 ≤ 1) (high : 1 ≤ 3) where
   abbrev first_crash : Deed C
