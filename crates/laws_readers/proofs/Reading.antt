@@ -1,5 +1,5 @@
 -- What was read of a later epoch isn't followed by what is of an earlier one.
-use Rattle.std.proofs.Common.{◌≡◌, ℕ, ◌≤◌, List, [], ◌∷◌, ◌++◌, length, take, refl, sym, ap, ◌∙◌, subst, arith, append_assoc}
+use Rattle.std.proofs.Common.{◌≡◌, ℕ, ◌≤◌, List, [], ◌∷◌, ◌++◌, length, take, refl, sym, ap, ◌∙◌, subst, arith, append_assoc, true}
 use Rattle.std.proofs.lemmas.Grind.{common_steps}
 use Rattle.vr_model.specs.Logs.{Request, IsAmong}
 use Rattle.vr_model.specs.World.{Event, Completion}
